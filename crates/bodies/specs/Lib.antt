@@ -1,0 +1,3 @@
+pub mod RcteBodies
+pub mod MacroBodies
+pub mod ValueBodies

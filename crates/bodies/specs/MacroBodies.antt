@@ -1,0 +1,42 @@
+-- BM's bodies, at the printer end and at the bulletin end. A subcommand meant for the other end has the wrong shape.
+use mathlib.Core.Bool.{Bool, _&&_, not}
+use mathlib.Core.List.{List}
+use Prim.Native.Nat.{ℕ}
+use lib.ListN.{length, getD, drop}
+use lib.Dec.{ltb, eqb}
+use Rattle.lists.specs.Choice.{pick}
+use Rattle.codes.specs.Telnet.{IAC, DEFINE, ACCEPT, REFUSE, LITERAL, PLEASECANCEL}
+use Rattle.bodies.specs.declared.MacroCommand.{MacroCommand}
+use Rattle.bodies.specs.declared.MacroCommand.the-variants.{Define, Literal}
+use Rattle.bodies.specs.declared.MacroBody.{MacroBody}
+use Rattle.bodies.specs.declared.MacroReply.{MacroReply}
+use Rattle.bodies.specs.declared.MacroReply.the-variants.{Accept, Refuse, PleaseCancel}
+use Rattle.bodies.specs.declared.ReplyBody.{ReplyBody}
+
+abbrev pub subcommandOf : List ℕ → ℕ
+subcommandOf body = getD body 1 0
+
+abbrev pub macroByteOf : List ℕ → ℕ
+macroByteOf body = getD body 2 0
+
+-- LITERAL is its byte alone, and not of 255
+abbrev pub isLiteral : List ℕ → Bool
+isLiteral body = eqb (subcommandOf body) LITERAL && eqb (length body) 3 && not (eqb (macroByteOf body) IAC)
+
+-- DEFINE needs its macro byte; what follows that is judged later
+unfoldable pub macroBody : List ℕ → MacroBody
+macroBody body =
+    pick (ltb (length body) 3) MacroBody.Unreadable
+    (pick (eqb (subcommandOf body) DEFINE) (MacroBody.Readable (Define (macroByteOf body)))
+    (pick (isLiteral body) (MacroBody.Readable (Literal (macroByteOf body))) MacroBody.Unreadable))
+
+-- a DEFINE's count and string
+abbrev pub defineRest : List ℕ → List ℕ
+defineRest body = drop 3 body
+
+-- ACCEPT is its byte alone; REFUSE and PLEASE CANCEL carry any one reason byte
+unfoldable pub replyBody : List ℕ → ReplyBody
+replyBody body =
+    pick (eqb (subcommandOf body) ACCEPT && eqb (length body) 3) (ReplyBody.Readable (Accept (macroByteOf body)))
+    (pick (eqb (subcommandOf body) REFUSE && eqb (length body) 4) (ReplyBody.Readable (Refuse (macroByteOf body)))
+    (pick (eqb (subcommandOf body) PLEASECANCEL && eqb (length body) 4) (ReplyBody.Readable (PleaseCancel (macroByteOf body))) ReplyBody.Unreadable))

@@ -1,0 +1,32 @@
+-- A session: calls on a bulletin end from its fresh state, each on the state that the last one returned.
+use mathlib.Core.List.{List, [], _∷_}
+use Prim.Native.Nat.{ℕ}
+use Rattle.keys.specs.declared.Key.{Key}
+use Rattle.bulletin.specs.State.{Bulletin, fresh, Answer}
+use Rattle.bulletin.specs.Calls.{networkCall, askCall, suggestCall, orderCall, defineCall, useCall, textCall}
+
+-- the lent buffers' sizes are a call's last arguments: of network the host's data and the wire, of the others the wire
+pub data Call : Type 0 where
+  network : (byte host wire : ℕ) → Call
+  ask : (option way wire : ℕ) → Call
+  suggest : (value wire : ℕ) → Call
+  order : (cmd breaks sends wire : ℕ) → Call
+  define : (byte : ℕ) → List ℕ → (wire : ℕ) → Call
+  useMacro : (byte wire : ℕ) → Call
+  text : Key → (wire : ℕ) → Call
+
+unfoldable pub called : Bulletin → Call → Answer
+called s (network b h w) = networkCall s b h w
+called s (ask o y w) = askCall s o y w
+called s (suggest v w) = suggestCall s v w
+called s (order c bc tc w) = orderCall s c bc tc w
+called s (define x t w) = defineCall s x t w
+called s (useMacro x w) = useCall s x w
+called s (text k w) = textCall s k w
+
+unfoldable pub answersFrom : Bulletin → List Call → List Answer
+answersFrom s [] = []
+answersFrom s (c ∷ cs) = let a = called s c in a ∷ answersFrom (a .did .state) cs
+
+abbrev pub session : List Call → List Answer
+session cs = answersFrom fresh cs

@@ -1,0 +1,1 @@
+// The bulletin end: the serving host.

@@ -1,0 +1,64 @@
+-- The codes and notes of an answer, with the paper's numbers, and how a call's refusals are ordered.
+use mathlib.Core.Bool.{Bool, _||_}
+use mathlib.Core.List.{List, [], _∷_}
+use Prim.Native.Nat.{ℕ}
+use lib.Dec.{ltb}
+use Rattle.lists.specs.Choice.{pick}
+use Rattle.codes.specs.declared.Code.{Code}
+use Rattle.codes.specs.declared.Code.the-variants.{Done, NoRoom, QueueFull, BadCommand, NotCarried, AlreadySo, NotInForce, BadMacroByte, TooLong, Unanswered, NoText, EchoAgainstRcte, BadValue, OutputWaits}
+use Rattle.codes.specs.declared.Note.{Note}
+use Rattle.codes.specs.declared.Note.the-variants.{Clear, Unreadable, Inactive, OtherOption, Stray}
+
+abbrev pub codeNumber : Code → ℕ
+codeNumber Done = 0
+codeNumber NoRoom = 1
+codeNumber QueueFull = 2
+codeNumber BadCommand = 3
+codeNumber NotCarried = 4
+codeNumber AlreadySo = 5
+codeNumber NotInForce = 6
+codeNumber BadMacroByte = 7
+codeNumber TooLong = 8
+codeNumber Unanswered = 9
+codeNumber NoText = 10
+codeNumber EchoAgainstRcte = 11
+codeNumber BadValue = 12
+codeNumber OutputWaits = 13
+
+abbrev pub noteNumber : Note → ℕ
+noteNumber Clear = 0
+noteNumber Unreadable = 1
+noteNumber Inactive = 2
+noteNumber OtherOption = 3
+noteNumber Stray = 4
+
+-- the first note of a call
+abbrev pub firstNote : Note → Note → Note
+firstNote Clear n = n
+firstNote Unreadable n = Unreadable
+firstNote Inactive n = Inactive
+firstNote OtherOption n = OtherOption
+firstNote Stray n = Stray
+
+-- the sizes that code 1 asks of the lent buffers
+abbrev pub paperRoom : ℕ
+paperRoom = 1024
+
+abbrev pub wireRoom : ℕ
+wireRoom = 2048
+
+abbrev pub noRoom : ℕ → ℕ → Bool
+noRoom paper wire = ltb paper paperRoom || ltb wire wireRoom
+
+-- a refusal and its condition
+pub record Guard : Type 0 where
+  pub holds : Bool
+  pub code : Code
+
+abbrev pub when : Bool → Code → Guard
+when b c = record { holds = b; code = c }
+
+-- a call's answer: that of the first guard that holds, in the order of the list, else what the call does
+unfoldable pub guarded : {A : Type 0} → List Guard → (Code → A) → A → A
+guarded [] refused done = done
+guarded (g ∷ gs) refused done = pick (g .holds) (refused (g .code)) (guarded gs refused done)

@@ -1,0 +1,91 @@
+-- Telnet's numbers: commands of RFC 854 and the options that are named.
+use mathlib.Core.Bool.{Bool, true, false}
+use Prim.Native.Nat.{ℕ}
+use Rattle.lists.specs.Choice.{between}
+use Rattle.codes.specs.declared.Verb.{Verb}
+use Rattle.codes.specs.declared.Verb.the-variants.{Will, Wont, Do, Dont}
+use Rattle.codes.specs.declared.Whose.{Whose}
+use Rattle.codes.specs.declared.Whose.the-variants.{His, Ours}
+
+abbrev pub SE : ℕ
+SE = 240
+
+abbrev pub NOP : ℕ
+NOP = 241
+
+abbrev pub GA : ℕ
+GA = 249
+
+abbrev pub SB : ℕ
+SB = 250
+
+abbrev pub IAC : ℕ
+IAC = 255
+
+abbrev pub ECHO : ℕ
+ECHO = 1
+
+abbrev pub SGA : ℕ
+SGA = 3
+
+abbrev pub RCTE : ℕ
+RCTE = 7
+
+abbrev pub NAOCRD : ℕ
+NAOCRD = 10
+
+abbrev pub BM : ℕ
+BM = 19
+
+-- the subcommands of BM
+abbrev pub DEFINE : ℕ
+DEFINE = 1
+
+abbrev pub ACCEPT : ℕ
+ACCEPT = 2
+
+abbrev pub REFUSE : ℕ
+REFUSE = 3
+
+abbrev pub LITERAL : ℕ
+LITERAL = 4
+
+-- house: RFC 735 gives no number
+abbrev pub PLEASECANCEL : ℕ
+PLEASECANCEL = 5
+
+-- the two ways of a NAOCRD body: from the data receiver, the printer end, and from the data sender, the bulletin end
+abbrev pub DR : ℕ
+DR = 0
+
+abbrev pub DS : ℕ
+DS = 1
+
+abbrev pub verbNumber : Verb → ℕ
+verbNumber Will = 251
+verbNumber Wont = 252
+verbNumber Do = 253
+verbNumber Dont = 254
+
+-- a command that a key or a text item may be, and that does nothing when it is read
+abbrev pub plainCommand : ℕ → Bool
+plainCommand c = between NOP GA c
+
+-- WILL and WONT are about the other end's side, DO and DONT about this end's
+abbrev pub whoseOf : Verb → Whose
+whoseOf Will = His
+whoseOf Wont = His
+whoseOf Do = Ours
+whoseOf Dont = Ours
+
+-- a request is WILL or DO
+abbrev pub enables : Verb → Bool
+enables Will = true
+enables Wont = false
+enables Do = true
+enables Dont = false
+
+-- the side as the end across the line sees it
+abbrev pub otherSide : Whose → Whose
+otherSide His = Ours
+otherSide Ours = His

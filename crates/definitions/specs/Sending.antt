@@ -1,0 +1,111 @@
+-- The sending table: for each byte, in the order of the bytes, how its last DEFINE stands.
+use mathlib.Core.Bool.{Bool, true, false, _||_, not}
+use mathlib.Core.List.{List, [], _∷_, _++_, map}
+use Prim.Native.Nat.{ℕ}
+use lib.ListN.{length, getD, set, replicate}
+use lib.Dec.{ltb, eqb}
+use Rattle.lists.specs.Choice.{pick}
+use Rattle.lists.specs.Lists.{sum, joined}
+use Rattle.codes.specs.Telnet.{IAC, BM, DEFINE}
+use Rattle.wire.specs.Frames.{doubled, coded, frame, literal}
+use Rattle.macros.specs.Texts.{isItself, textRoom}
+
+-- a text is the data that was given to DEFINE; pendingFree is a byte whose pending definition is itself
+pub data Sent : Type 0 where
+  free : Sent
+  pending : List ℕ → Sent
+  pendingFree : Sent
+  accepted : List ℕ → Sent
+  refused : Sent
+
+abbrev pub Definitions : Type 0
+Definitions = List Sent
+
+abbrev pub noDefinitions : Definitions
+noDefinitions = replicate 256 free
+
+abbrev pub sentOf : Definitions → ℕ → Sent
+sentOf t x = getD t x free
+
+-- data 255 in a text is stored as two bytes
+abbrev pub stored : List ℕ → List ℕ
+stored s = doubled s
+
+-- texts of pending and accepted bytes count, as they are stored
+abbrev pub sentLength : Sent → ℕ
+sentLength free = 0
+sentLength (pending s) = length (stored s)
+sentLength pendingFree = 0
+sentLength (accepted s) = length (stored s)
+sentLength refused = 0
+
+unfoldable pub sentTotal : Definitions → ℕ
+sentTotal t = sum (map sentLength t)
+
+abbrev pub isPending : Sent → Bool
+isPending free = false
+isPending (pending s) = true
+isPending pendingFree = true
+isPending (accepted s) = false
+isPending refused = false
+
+abbrev pub isAccepted : Sent → Bool
+isAccepted free = false
+isAccepted (pending s) = false
+isAccepted pendingFree = false
+isAccepted (accepted s) = true
+isAccepted refused = false
+
+abbrev pub isFree : Sent → Bool
+isFree free = true
+isFree (pending s) = false
+isFree pendingFree = false
+isFree (accepted s) = false
+isFree refused = false
+
+abbrev pub sentFor : ℕ → List ℕ → Sent
+sentFor x s = pick (isItself x s) pendingFree (pending s)
+
+unfoldable pub defining : Definitions → ℕ → List ℕ → Definitions
+defining t x s = set t x (sentFor x s)
+
+abbrev pub storedRoom : ℕ
+storedRoom = 255
+
+-- a text over 255 bytes stored, or all texts, it replacing the byte's old one, over 1,024
+unfoldable pub isTooLong : Definitions → ℕ → List ℕ → Bool
+isTooLong t x s = ltb storedRoom (length (stored s)) || ltb textRoom (sentTotal (defining t x s))
+
+-- 19, 1, X, count, string
+unfoldable pub defineBytes : ℕ → List ℕ → List ℕ
+defineBytes x s = frame (BM ∷ DEFINE ∷ x ∷ length (stored s) ∷ stored s)
+
+-- what an ACCEPT and a REFUSE make of a byte; of one that is not pending, nothing
+abbrev pub onAccept : Sent → Sent
+onAccept free = free
+onAccept (pending s) = accepted s
+onAccept pendingFree = free
+onAccept (accepted s) = accepted s
+onAccept refused = refused
+
+abbrev pub onRefuse : Sent → Sent
+onRefuse free = free
+onRefuse (pending s) = refused
+onRefuse pendingFree = refused
+onRefuse (accepted s) = accepted s
+onRefuse refused = refused
+
+-- the text of an accepted byte
+abbrev pub acceptedText : Sent → List ℕ
+acceptedText free = []
+acceptedText (pending s) = []
+acceptedText pendingFree = []
+acceptedText (accepted s) = s
+acceptedText refused = []
+
+-- a data byte on the wire: 255 doubled, one that is not free as LITERAL
+unfoldable pub dataBytes : Definitions → ℕ → List ℕ
+dataBytes t b = pick (eqb b IAC) (coded b) (pick (isFree (sentOf t b)) (b ∷ []) (literal b))
+
+abbrev pub allDataBytes : Definitions → List ℕ → List ℕ
+allDataBytes t bs = joined (dataBytes t) bs

@@ -1,0 +1,1 @@
+// RCTE's control of the keyboard: hold, classes, waiting keys, gathered bytes.

@@ -1,0 +1,65 @@
+-- Keys: their classes, their paper and their bytes on the wire.
+use mathlib.Core.Bool.{Bool, true, false, _||_, _&&_, not}
+use mathlib.Core.List.{List, [], _∷_}
+use Prim.Native.Nat.{ℕ, _-_, _/_, _%_, _^_}
+use lib.Dec.{leb, eqb}
+use Rattle.lists.specs.Choice.{pick, between, oneOf}
+use Rattle.keys.specs.declared.Key.{Key}
+use Rattle.keys.specs.declared.Key.the-variants.{Char, Line, Command}
+
+-- BS HT LF VT FF CR
+abbrev pub formatEffectors : List ℕ
+formatEffectors = 8 ∷ 9 ∷ 10 ∷ 11 ∷ 12 ∷ 13 ∷ []
+
+-- . , ; : ? !
+abbrev pub punctuation : List ℕ
+punctuation = 46 ∷ 44 ∷ 59 ∷ 58 ∷ 63 ∷ 33 ∷ []
+
+-- { [ ( < > ) ] }
+abbrev pub brackets : List ℕ
+brackets = 123 ∷ 91 ∷ 40 ∷ 60 ∷ 62 ∷ 41 ∷ 93 ∷ 125 ∷ []
+
+-- ' " / \ % @ $ & # + - * = ^ _ | ~
+abbrev pub symbols : List ℕ
+symbols = 39 ∷ 34 ∷ 47 ∷ 92 ∷ 37 ∷ 64 ∷ 36 ∷ 38 ∷ 35 ∷ 43 ∷ 45 ∷ 42 ∷ 61 ∷ 94 ∷ 95 ∷ 124 ∷ 126 ∷ []
+
+-- a byte's class, 0 for none
+unfoldable pub classOf : ℕ → ℕ
+classOf b =
+    pick (between 65 90 b) 1
+    (pick (between 97 122 b) 2
+    (pick (between 48 57 b) 3
+    (pick (oneOf formatEffectors b) 4
+    (pick (leb b 31 || eqb b 127) 5
+    (pick (oneOf punctuation b) 6
+    (pick (oneOf brackets b) 7
+    (pick (oneOf symbols b) 8
+    (pick (eqb b 32) 9 0))))))))
+
+abbrev pub keyClass : Key → ℕ
+keyClass (Char b) = classOf b
+keyClass Line = 4
+keyClass (Command c) = 0
+
+abbrev pub isCommand : Key → Bool
+isCommand (Char b) = false
+isCommand Line = false
+isCommand (Command c) = true
+
+-- class k is bit k - 1 of the class pair, read as one number with its first byte high
+unfoldable pub inClasses : ℕ → ℕ → Bool
+inClasses pair k = not (eqb k 0) && eqb (pair / 2 ^ (k - 1) % 2) 1
+
+-- classes 1 to 4 and 6 to 9 print themselves
+unfoldable pub prints : ℕ → Bool
+prints b = not (eqb (classOf b) 0 || eqb (classOf b) 5)
+
+unfoldable pub keyPaper : Key → List ℕ
+keyPaper (Char b) = pick (prints b) (b ∷ []) []
+keyPaper Line = 13 ∷ 10 ∷ []
+keyPaper (Command c) = []
+
+unfoldable pub keyWire : Key → List ℕ
+keyWire (Char b) = pick (eqb b 13) (13 ∷ 0 ∷ []) (pick (eqb b 255) (255 ∷ 255 ∷ []) (b ∷ []))
+keyWire Line = 13 ∷ 10 ∷ []
+keyWire (Command c) = 255 ∷ c ∷ []

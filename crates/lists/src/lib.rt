@@ -1,0 +1,1 @@
+// Definitions and laws on lists that every other crate shares. There is no code here.

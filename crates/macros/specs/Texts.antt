@@ -1,0 +1,65 @@
+-- The receiving table: an entry for each byte, in the order of the bytes.
+use mathlib.Core.Bool.{Bool, true, false, _&&_, not}
+use mathlib.Core.List.{List, [], _∷_, map}
+use Prim.Native.Nat.{ℕ}
+use lib.ListN.{length, getD, set, replicate}
+use lib.Dec.{ltb, eqb}
+use Rattle.lists.specs.Choice.{pick}
+use Rattle.lists.specs.Lists.{sum}
+use Rattle.macros.specs.declared.Verdict.{Verdict}
+use Rattle.macros.specs.declared.Verdict.the-variants.{Accepted, Refused}
+
+-- a byte stands for itself, or for a text
+pub data Entry : Type 0 where
+  plain : Entry
+  text : List ℕ → Entry
+
+abbrev pub Table : Type 0
+Table = List Entry
+
+abbrev pub noMacros : Table
+noMacros = replicate 256 plain
+
+abbrev pub entryOf : Table → ℕ → Entry
+entryOf t x = getD t x plain
+
+abbrev pub entryLength : Entry → ℕ
+entryLength plain = 0
+entryLength (text s) = length s
+
+-- the total of all texts
+unfoldable pub total : Table → ℕ
+total t = sum (map entryLength t)
+
+abbrev pub textRoom : ℕ
+textRoom = 1024
+
+-- X defined as X alone
+abbrev pub isItself : ℕ → List ℕ → Bool
+isItself x s = eqb (length s) 1 && eqb (getD s 0 256) x
+
+-- what a text makes of X: defined as itself, X is free again
+abbrev pub entryFor : ℕ → List ℕ → Entry
+entryFor x s = pick (isItself x s) plain (text s)
+
+unfoldable pub defined : Table → ℕ → List ℕ → Table
+defined t x s = set t x (entryFor x s)
+
+-- with a count and a string behind X
+abbrev pub judgedText : Table → ℕ → ℕ → List ℕ → Verdict
+judgedText t x count s =
+    pick (not (eqb (length s) count)) (Refused 3)
+    (pick (ltb textRoom (total (defined t x s))) (Refused 2) Accepted)
+
+abbrev pub judgedRest : Table → ℕ → List ℕ → Verdict
+judgedRest t x [] = Refused 0
+judgedRest t x (count ∷ s) = judgedText t x count s
+
+-- the refusals of a DEFINE of X in their order; rest is what follows X
+unfoldable pub judged : Table → ℕ → List ℕ → Verdict
+judged t x rest = pick (eqb x 255) (Refused 1) (judgedRest t x rest)
+
+-- after a refusal X's old text stands
+abbrev pub afterDefine : Verdict → Table → ℕ → List ℕ → Table
+afterDefine Accepted t x s = defined t x s
+afterDefine (Refused reason) t x s = t

@@ -1,0 +1,4 @@
+pub mod State
+pub mod Network
+pub mod Calls
+pub mod Session

@@ -1,0 +1,126 @@
+-- A network byte at the printer end.
+use mathlib.Core.Bool.{Bool, true, false, _&&_, not}
+use mathlib.Core.List.{List, [], _∷_, _++_}
+use Prim.Native.Nat.{ℕ}
+use lib.ListN.{drop}
+use lib.Dec.{eqb}
+use Rattle.lists.specs.Choice.{pick}
+use Rattle.codes.specs.Telnet.{RCTE, NAOCRD, BM, ACCEPT, REFUSE, DS, whoseOf, enables}
+use Rattle.codes.specs.declared.Note.{Note}
+use Rattle.codes.specs.declared.Note.the-variants.{Unreadable, Inactive, OtherOption, Stray}
+use Rattle.codes.specs.declared.Verb.{Verb}
+use Rattle.codes.specs.declared.Whose.{Whose}
+use Rattle.wire.specs.Frames.{frame}
+use Rattle.negotiation.specs.declared.Standing.{Standing}
+use Rattle.negotiation.specs.declared.Side.{Side}
+use Rattle.negotiation.specs.declared.Side.the-variants.{Echo, BulletinSga, Rcte, Macro, PrinterSga, Returns, Uncarried}
+use Rattle.negotiation.specs.Table.{isYes, stillOn}
+use Rattle.negotiation.specs.Carried.{printerSide, moved, heardBy}
+use Rattle.reader.specs.declared.Item.{Item}
+use Rattle.reader.specs.declared.Item.the-variants.{Nothing, Data, Negotiated, BodyEnd, StrayCommand}
+use Rattle.reader.specs.Reading.{Read, idle, read, byOption, isBetween}
+use Rattle.bodies.specs.declared.RcteBody.{RcteBody}
+use Rattle.bodies.specs.declared.MacroBody.{MacroBody}
+use Rattle.bodies.specs.declared.MacroCommand.{MacroCommand}
+use Rattle.bodies.specs.declared.MacroCommand.the-variants.{Define, Literal}
+use Rattle.bodies.specs.declared.ValueBody.{ValueBody}
+use Rattle.bodies.specs.RcteBodies.{rcteBody}
+use Rattle.bodies.specs.MacroBodies.{macroBody, defineRest}
+use Rattle.bodies.specs.ValueBodies.{valueBody}
+use Rattle.macros.specs.declared.Verdict.{Verdict}
+use Rattle.macros.specs.declared.Verdict.the-variants.{Accepted, Refused}
+use Rattle.macros.specs.Texts.{Entry, plain, text, noMacros, entryOf, judged, afterDefine}
+use Rattle.echo.specs.Control.{started, holding, commanded, ended}
+use Rattle.disposition.specs.Returns.{unspoken, withDs}
+use Rattle.printer.specs.State.{Printer, withSides, withReader, withTable, withEcho, withValues, rcteOn, echoOn, returnsOn, macrosOn, Did, sends, nothing, notes, printing, echoing, followed}
+
+-- data is printed as it is; under RCTE it then holds
+abbrev pub afterData : Printer → Printer
+afterData s = pick (rcteOn s) (withEcho s (holding (s .echo))) s
+
+unfoldable pub dataRead : Printer → ℕ → Did
+dataRead s b = printing (b ∷ []) (afterData s)
+
+-- RCTE's standing changed: it ends as it leaves YES, behind the reply, and starts anew as it reaches YES
+abbrev pub rcteMoved : Bool → Bool → List ℕ → Printer → Did
+rcteMoved true true reply s = sends reply s
+rcteMoved true false reply s = echoing reply (ended (echoOn s) (s .echo)) s
+rcteMoved false true reply s = sends reply (withEcho s started)
+rcteMoved false false reply s = sends reply s
+
+-- a side's standing changed, with what follows from it; reply is the bytes that the negotiation sends
+unfoldable pub sideMoved : Printer → Side → Standing → List ℕ → Did
+sideMoved s Rcte q reply = rcteMoved (rcteOn s) (isYes q) reply (withSides s (moved (s .sides) Rcte q))
+sideMoved s Macro q reply = sends reply (withTable (withSides s (moved (s .sides) Macro q)) (pick (stillOn q) (s .table) noMacros))
+sideMoved s Returns q reply = sends reply (withValues (withSides s (moved (s .sides) Returns q)) (pick (isYes q) (s .values) unspoken))
+sideMoved s Echo q reply = sends reply (withSides s (moved (s .sides) Echo q))
+sideMoved s BulletinSga q reply = sends reply (withSides s (moved (s .sides) BulletinSga q))
+sideMoved s PrinterSga q reply = sends reply (withSides s (moved (s .sides) PrinterSga q))
+sideMoved s Uncarried q reply = sends reply s
+
+unfoldable pub sideHeard : Printer → Whose → Bool → ℕ → Side → Did
+sideHeard s whose enable option side = heardBy (s .sides) whose option side enable (λ q reply. sideMoved s side q reply) (λ bytes. sends bytes s)
+
+unfoldable pub negotiationRead : Printer → Verb → ℕ → Did
+negotiationRead s v option = sideHeard s (whoseOf v) (enables v) option (printerSide (whoseOf v) option)
+
+-- the bodies; each of these is reached with the option in force
+abbrev pub rcteRead : Printer → RcteBody → Did
+rcteRead s RcteBody.Unreadable = notes Unreadable s
+rcteRead s (RcteBody.Readable c) = echoing [] (commanded (s .echo) c) s
+
+-- ACCEPT is 19, 2, X; REFUSE is 19, 3, X, reason
+abbrev pub verdictBytes : Verdict → ℕ → List ℕ
+verdictBytes Accepted x = frame (BM ∷ ACCEPT ∷ x ∷ [])
+verdictBytes (Refused reason) x = frame (BM ∷ REFUSE ∷ x ∷ reason ∷ [])
+
+abbrev pub defineRead : Printer → ℕ → List ℕ → Verdict → Did
+defineRead s x rest v = sends (verdictBytes v x) (withTable s (afterDefine v (s .table) x (drop 1 rest)))
+
+abbrev pub macroRead : Printer → List ℕ → MacroBody → Did
+macroRead s body MacroBody.Unreadable = notes Unreadable s
+macroRead s body (MacroBody.Readable (Define x)) = defineRead s x (defineRest body) (judged (s .table) x (defineRest body))
+macroRead s body (MacroBody.Readable (Literal x)) = dataRead s x
+
+abbrev pub valueRead : Printer → ValueBody → Did
+valueRead s ValueBody.Unreadable = notes Unreadable s
+valueRead s (ValueBody.Readable v) = nothing (withValues s (withDs (s .values) v))
+
+-- checks on a body in order: marred or empty, another option, not in force, shape
+unfoldable pub optionRead : Printer → ℕ → List ℕ → Did
+optionRead s option body =
+    pick (eqb option RCTE) (pick (rcteOn s) (rcteRead s (rcteBody body)) (notes Inactive s))
+    (pick (eqb option NAOCRD) (pick (returnsOn s) (valueRead s (valueBody DS body)) (notes Inactive s))
+    (pick (eqb option BM) (pick (macrosOn s) (macroRead s body (macroBody body)) (notes Inactive s))
+    (notes OtherOption s)))
+
+unfoldable pub bodyRead : Printer → Bool → List ℕ → Did
+bodyRead s marred body = byOption marred body (notes Unreadable s) (λ option. optionRead s option body)
+
+-- an item handled, in the state that has the reader as the byte left it; a body leaves the reader empty
+abbrev pub itemRead : Printer → Item → Did
+itemRead s Nothing = nothing s
+itemRead s (Data b) = dataRead s b
+itemRead s (Negotiated v option) = negotiationRead s v option
+itemRead s BodyEnd = bodyRead (withReader s idle) (s .reader .marred) (s .reader .body)
+itemRead s StrayCommand = notes Stray s
+
+abbrev pub afterRead : Printer → Read → Did
+afterRead s r = itemRead (withReader s (r .reader)) (r .item)
+
+-- a byte read as it stands
+unfoldable pub byteRead : Printer → ℕ → Did
+byteRead s b = afterRead s (read (s .reader) b)
+
+-- the bytes of a macro's text, each read as if from the network, none replaced
+unfoldable pub bytesRead : Printer → List ℕ → Did
+bytesRead s [] = nothing s
+bytesRead s (b ∷ bs) = let d = byteRead s b in followed d (bytesRead (d .state) bs)
+
+abbrev pub entryRead : Printer → ℕ → Entry → Did
+entryRead s b plain = byteRead s b
+entryRead s b (text t) = bytesRead s t
+
+-- with BM in force and the reader between commands, a defined byte is replaced by its text
+unfoldable pub networkRead : Printer → ℕ → Did
+networkRead s b = pick (macrosOn s && isBetween (s .reader .phase)) (entryRead s b (entryOf (s .table) b)) (byteRead s b)

@@ -1,0 +1,26 @@
+-- A session: calls on a printer end from its fresh state, each on the state that the last one returned.
+use mathlib.Core.List.{List, [], _∷_}
+use Prim.Native.Nat.{ℕ}
+use Rattle.keys.specs.declared.Key.{Key}
+use Rattle.printer.specs.State.{Printer, fresh, Answer}
+use Rattle.printer.specs.Calls.{networkCall, keyCall, askCall, suggestCall}
+
+-- the lent buffers' sizes, paper and wire, are a call's last two arguments
+pub data Call : Type 0 where
+  network : (byte paper wire : ℕ) → Call
+  key : Key → (paper wire : ℕ) → Call
+  ask : (option way paper wire : ℕ) → Call
+  suggest : (value paper wire : ℕ) → Call
+
+unfoldable pub called : Printer → Call → Answer
+called s (network b p w) = networkCall s b p w
+called s (key k p w) = keyCall s k p w
+called s (ask o y p w) = askCall s o y p w
+called s (suggest v p w) = suggestCall s v p w
+
+unfoldable pub answersFrom : Printer → List Call → List Answer
+answersFrom s [] = []
+answersFrom s (c ∷ cs) = let a = called s c in a ∷ answersFrom (a .did .state) cs
+
+abbrev pub session : List Call → List Answer
+session cs = answersFrom fresh cs

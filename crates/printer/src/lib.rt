@@ -1,0 +1,1 @@
+// The printer end: keyboard and paper.

@@ -1,0 +1,6 @@
+pub mod Opened
+pub mod OpenedBulletin
+pub mod Showing
+pub mod Bytes
+pub mod Starred
+pub mod Listing

@@ -1,0 +1,34 @@
+-- The printer end's and the tape's rules, opened for computation: `unfolding printerRules` lets a closed term of them compute.
+use Rattle.lists.specs.Choice.{oneOf}
+use Rattle.lists.specs.Lists.{sum, joined}
+use Rattle.codes.specs.Answers.{guarded}
+use Rattle.keys.specs.Keys.{classOf, inClasses, prints, keyPaper, keyWire}
+use Rattle.wire.specs.Frames.{coded, frame}
+use Rattle.negotiation.specs.Carried.{printerSide, clashes, askedSide, heardBy, askedBy}
+use Rattle.negotiation.specs.Table.{heard, asked}
+use Rattle.reader.specs.Reading.{keeping, commandRead, bodyCommandRead, read, byOption}
+use Rattle.bodies.specs.MacroBodies.{macroBody}
+use Rattle.bodies.specs.RcteBodies.{rcteBody}
+use Rattle.bodies.specs.ValueBodies.{valueBody}
+use Rattle.macros.specs.Texts.{total, defined, judged}
+use Rattle.echo.specs.Control.{isFull, pressed, released, commanded, ended}
+use Rattle.echo.specs.Taking.{isBreak, isSend, takenUp}
+use Rattle.disposition.specs.Returns.{handling}
+use Rattle.printer.specs.Calls.{networkCall, keyTyped, keyCall, askCall, suggestCall, returnsReport}
+use Rattle.printer.specs.Network.{dataRead, sideMoved, sideHeard, negotiationRead, optionRead, bodyRead, byteRead, bytesRead, networkRead}
+use Rattle.printer.specs.Session.{called, answersFrom}
+use Rattle.tape.specs.Fields.{foundAt, partOf, pairs, itemsOf}
+use Rattle.tape.specs.Lines.{digits, hexByte, lineOf, shown, badTape}
+use Rattle.tape.specs.Running.{lentFor, pairCall, itemAnswer, itemsRun, fieldsRun, printed}
+
+unfoldable pub layerRules : Unit {0}
+unfolding oneOf sum joined guarded classOf inClasses prints keyPaper keyWire coded frame printerSide clashes askedSide heardBy askedBy heard asked keeping commandRead bodyCommandRead read byOption macroBody rcteBody valueBody total defined judged isFull pressed released commanded ended isBreak isSend takenUp handling
+layerRules = tt
+
+unfoldable pub printerRules : Unit {0}
+unfolding layerRules networkCall keyTyped keyCall askCall suggestCall returnsReport dataRead sideMoved sideHeard negotiationRead optionRead bodyRead byteRead bytesRead networkRead called answersFrom
+printerRules = tt
+
+unfoldable pub tapeRules : Unit {0}
+unfolding printerRules foundAt partOf pairs itemsOf digits hexByte lineOf shown badTape lentFor pairCall itemAnswer itemsRun fieldsRun printed
+tapeRules = tt

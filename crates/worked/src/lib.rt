@@ -1,0 +1,1 @@
+// Worked examples of the rules. There is no code here.
