@@ -1,8 +1,145 @@
 // A key of the printer end's keyboard, and an item of the bulletin end's text.
+ghost use mathlib.Core.Path.{_≡_};
+ghost use Prim.Native.Nat.{_≤_, _-_, _/_, _%_, _^_};
+ghost use Rattle.lists.specs.Buffers.{RoomFor, Wrote};
+ghost use Rattle.keys.specs.Keys.{classOf, keyClass, inClasses, isCommand, prints, keyPaper};
+ghost use Rattle.keys.specs.Packing.{packed, unpacked};
 
 // Char and Line are typed characters; a Command is one of Telnet's codes 241 to 249.
 pub enum Key {
     Char(u8),
     Line,
     Command(u8),
+}
+
+// RFC 726's class of each byte, 0 for none.
+const CLASSES: [u8; 256] = [
+    5, 5, 5, 5, 5, 5, 5, 5, 4, 4, 4, 4, 4, 4, 5, 5,
+    5, 5, 5, 5, 5, 5, 5, 5, 5, 5, 5, 5, 5, 5, 5, 5,
+    9, 6, 8, 8, 8, 8, 8, 8, 7, 7, 8, 8, 6, 8, 6, 8,
+    3, 3, 3, 3, 3, 3, 3, 3, 3, 3, 6, 6, 7, 8, 7, 6,
+    8, 1, 1, 1, 1, 1, 1, 1, 1, 1, 1, 1, 1, 1, 1, 1,
+    1, 1, 1, 1, 1, 1, 1, 1, 1, 1, 1, 7, 8, 7, 8, 8,
+    0, 2, 2, 2, 2, 2, 2, 2, 2, 2, 2, 2, 2, 2, 2, 2,
+    2, 2, 2, 2, 2, 2, 2, 2, 2, 2, 2, 7, 8, 7, 8, 5,
+    0, 0, 0, 0, 0, 0, 0, 0, 0, 0, 0, 0, 0, 0, 0, 0,
+    0, 0, 0, 0, 0, 0, 0, 0, 0, 0, 0, 0, 0, 0, 0, 0,
+    0, 0, 0, 0, 0, 0, 0, 0, 0, 0, 0, 0, 0, 0, 0, 0,
+    0, 0, 0, 0, 0, 0, 0, 0, 0, 0, 0, 0, 0, 0, 0, 0,
+    0, 0, 0, 0, 0, 0, 0, 0, 0, 0, 0, 0, 0, 0, 0, 0,
+    0, 0, 0, 0, 0, 0, 0, 0, 0, 0, 0, 0, 0, 0, 0, 0,
+    0, 0, 0, 0, 0, 0, 0, 0, 0, 0, 0, 0, 0, 0, 0, 0,
+    0, 0, 0, 0, 0, 0, 0, 0, 0, 0, 0, 0, 0, 0, 0, 0,
+];
+
+pub fn class_of(b: u8) -> u8
+    ensures { λ r. ⌜ r ≡ classOf b ⌝ }
+{
+    let at = b as usize;
+    CLASSES[at]
+}
+
+pub fn key_class(k: Key) -> u8
+    ensures { λ r. ⌜ r ≡ keyClass k ⌝ }
+{
+    match k {
+        Key::Char(b) => class_of(b),
+        Key::Line => 4,
+        Key::Command(_) => 0,
+    }
+}
+
+pub fn is_command(k: Key) -> bool
+    ensures { λ r. ⌜ r ≡ isCommand k ⌝ }
+{
+    match k {
+        Key::Char(_) => false,
+        Key::Line => false,
+        Key::Command(_) => true,
+    }
+}
+
+// The weight of a class's bit; there are nine classes.
+fn bit_of(pair: u16, class: u8) -> u16
+    requires { ⌜ (1 ≤ class) × (class ≤ 9) ⌝ }
+    ensures { λ r. ⌜ r ≡ pair / 2 ^ (class - 1) % 2 ⌝ }
+{
+    match class {
+        1 => pair % 2,
+        2 => pair / 2 % 2,
+        3 => pair / 4 % 2,
+        4 => pair / 8 % 2,
+        5 => pair / 16 % 2,
+        6 => pair / 32 % 2,
+        7 => pair / 64 % 2,
+        8 => pair / 128 % 2,
+        _ => pair / 256 % 2,
+    }
+}
+
+pub fn in_classes(pair: u16, class: u8) -> bool
+    requires { ⌜ class ≤ 9 ⌝ }
+    ensures { λ r. ⌜ r ≡ inClasses pair class ⌝ }
+{
+    if class == 0 {
+        return false;
+    }
+    bit_of(pair, class) == 1
+}
+
+// Whether a byte prints itself.
+pub fn prints(b: u8) -> bool
+    ensures { λ r. ⌜ r ≡ prints b ⌝ }
+{
+    let class = class_of(b);
+    match class {
+        0 => false,
+        5 => false,
+        _ => true,
+    }
+}
+
+// A key's paper, at the start of out.
+pub fn put_paper(k: Key, out: &mut [u8]) -> usize
+    requires { ⌜ RoomFor (keyPaper k) (now out) ⌝ }
+    ensures { λ r. ⌜ Wrote (keyPaper k) (now (out .entry)) (now (out .exit)) r ⌝ }
+{
+    match k {
+        Key::Char(b) => {
+            if prints(b) {
+                out[0] = b;
+                return 1;
+            }
+            0
+        }
+        Key::Line => {
+            out[0] = 13;
+            out[1] = 10;
+            2
+        }
+        Key::Command(_) => 0,
+    }
+}
+
+// A key as one number, for a queue.
+pub fn pack(k: Key) -> u16
+    ensures { λ r. ⌜ r ≡ packed k ⌝ }
+{
+    match k {
+        Key::Char(b) => b as u16,
+        Key::Line => 256,
+        Key::Command(c) => 512 + c as u16,
+    }
+}
+
+pub fn unpack(n: u16) -> Key
+    ensures { λ r. ⌜ r ≡ unpacked n ⌝ }
+{
+    if n < 256 {
+        return Key::Char(n as u8);
+    }
+    if n < 512 {
+        return Key::Line;
+    }
+    Key::Command((n % 256) as u8)
 }

@@ -1,0 +1,3 @@
+pub mod Tables
+pub mod Starts
+pub mod Parts
