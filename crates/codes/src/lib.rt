@@ -1,4 +1,6 @@
 // What a call answers: a code and a note. Which end and which side of an option is meant.
+ghost use mathlib.Core.Path.{_≡_};
+ghost use Rattle.codes.specs.Telnet.{verbNumber};
 
 // A refusal leaves the state and every lent byte as they were; Done is the one code that does not refuse.
 pub enum Code {
@@ -39,4 +41,15 @@ pub enum Verb {
 pub enum Whose {
     His,
     Ours,
+}
+
+pub fn verb_number(v: Verb) -> u8
+    ensures { λ r. ⌜ r ≡ verbNumber v ⌝ }
+{
+    match v {
+        Verb::Will => 251,
+        Verb::Wont => 252,
+        Verb::Do => 253,
+        Verb::Dont => 254,
+    }
 }

@@ -1,3 +1,4 @@
 pub mod Tables
 pub mod Starts
 pub mod Parts
+pub mod Joined

@@ -1,10 +1,11 @@
 -- Bytes written behind others: what an encoder that was lent the rest of a buffer leaves in the whole.
 use mathlib.Core.Path.{_≡_, refl, sym, ap, _∙_}
 use mathlib.Core.List.{List, [], _∷_, _++_, append-assoc, append-nil}
-use Prim.Native.Nat.{ℕ, _+_, _-_, _≤_}
+use Prim.Native.Nat.{ℕ, suc, _+_, _-_, _≤_, _<_}
+use native.Mathlib.Numerals.{add-one}
 use native.Mathlib.Omega.{arith}
-use lib.ListN.{length, take, drop, length-append, length-take, length-drop, drop-of-length-le}
-use lib.Seq.{take-all, drop-drop, take-at, drop-at}
+use lib.ListN.{length, take, drop, set, getD, length-append, length-take, length-drop, drop-of-length-le}
+use lib.Seq.{take-all, drop-drop, take-at, drop-at, drop-cons, set-at, append-snoc}
 use borrow.Rule.Slice.PartMut.{putMid}
 use Rattle.lists.specs.Buffers.{Wrote, RoomFor}
 
@@ -12,6 +13,10 @@ use Rattle.lists.specs.Buffers.{Wrote, RoomFor}
 pub same-long : {bytes before after : List ℕ} {n : ℕ} → Wrote bytes before after n → RoomFor bytes before → length after ≡ length before
 same-long {bytes} {before} w room =
     rw (w .cells) (simp (length-append, length-drop) (omega arith))
+
+-- a count is within the buffer
+pub counted : {bytes before after : List ℕ} {n : ℕ} → Wrote bytes before after n → RoomFor bytes before → n ≤ length before
+counted w room = rw (w .count) room
 
 module _ {done before mid : List ℕ} {n : ℕ} (w : Wrote done before mid n) (room : RoomFor done before) where
   -- what is unused of the buffer
@@ -37,4 +42,14 @@ module _ {done before mid : List ℕ} {n : ℕ} (w : Wrote done before mid n) (r
         cells = rw (w .count, head, none, part) (simp (append-nil, append-assoc, length-append, drop-drop));
       }
 
-
+  -- one byte stored behind them
+  pub wrote-more : (x : ℕ) → n < length before → Wrote (done ++ x ∷ []) before (set mid n x) (n + 1)
+  wrote-more x h =
+      let inside : length done < length before = omega (arith, w .count) in
+      let next : drop (length done) before ≡ getD before (length done) 0 ∷ drop (suc (length done)) before = drop-cons before (length done) 0 inside in
+      let stored : set (done ++ getD before (length done) 0 ∷ drop (suc (length done)) before) (length done) x ≡ done ++ x ∷ drop (suc (length done)) before = set-at done (getD before (length done) 0) (drop (suc (length done)) before) x (length done) refl in
+      let long : length (done ++ x ∷ []) ≡ suc (length done) = length-append done (x ∷ []) ∙ add-one (length done) in
+      record {
+        count = rw (w .count, long) (add-one (length done));
+        cells = rw (w .cells, w .count, next, stored, long) (sym (append-snoc done x (drop (suc (length done)) before)));
+      }

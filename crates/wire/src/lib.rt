@@ -1,1 +1,119 @@
-// What is written on the wire: bytes with IAC doubled, negotiations, subnegotiation frames.
+// What is written on the wire: bytes with IAC doubled, negotiations, subnegotiation frames. Each encoder is handed the
+// part of the output from the written count onward and fills its start.
+ghost use mathlib.Core.Path.{_≡_};
+ghost use lib.ListN.{length};
+ghost use Rattle.lists.specs.Buffers.{RoomFor, Wrote};
+ghost use Rattle.keys.specs.Keys.{keyWire};
+ghost use Rattle.wire.specs.Frames.{coded, doubled, negotiation, frame, literal};
+ghost use Rattle.keys.specs.declared.Key.the-variants.{Char};
+use codes::Verb;
+use keys::Key;
+
+// A byte of data or of a body.
+pub fn put_coded(b: u8, out: &mut [u8]) -> usize
+    requires { ⌜ RoomFor (coded b) (now out) ⌝ }
+    ensures { λ r. ⌜ Wrote (coded b) (now (out .entry)) (now (out .exit)) r ⌝ }
+{
+    if b == 255 {
+        out[0] = 255;
+        out[1] = 255;
+        return 2;
+    }
+    out[0] = b;
+    1
+}
+
+pub fn put_negotiation(v: Verb, option: u8, out: &mut [u8]) -> usize
+    requires { ⌜ RoomFor (negotiation v option) (now out) ⌝ }
+    ensures { λ r. ⌜ Wrote (negotiation v option) (now (out .entry)) (now (out .exit)) r ⌝ }
+{
+    let verb = codes::verb_number(v);
+    out[0] = 255;
+    out[1] = verb;
+    out[2] = option;
+    3
+}
+
+// A plain copy.
+pub fn put_bytes(src: &[u8], out: &mut [u8]) -> usize
+    requires { ⌜ RoomFor (now src) (now out) ⌝ }
+    ensures { λ r. ⌜ Wrote (now (src .entry)) (now (out .entry)) (now (out .exit)) r ⌝ }
+{
+    let n = src.len();
+    let mut i: usize = 0;
+    while i < n {
+        out[i] = src[i];
+        i += 1;
+    }
+    n
+}
+
+// The bytes of a body, each 255 doubled.
+fn put_doubled(body: &[u8], out: &mut [u8]) -> usize
+    requires { ⌜ RoomFor (doubled (now body)) (now out) ⌝ }
+    ensures { λ r. ⌜ Wrote (doubled (now (body .entry))) (now (out .entry)) (now (out .exit)) r ⌝ }
+{
+    let mut i: usize = 0;
+    let mut n: usize = 0;
+    while i < body.len() {
+        let b = body[i];
+        let w = put_coded(b, &mut out[n..]);
+        n += w;
+        i += 1;
+    }
+    n
+}
+
+// A subnegotiation of a body, its option byte first.
+pub fn put_frame(body: &[u8], out: &mut [u8]) -> usize
+    requires { ⌜ RoomFor (frame (now body)) (now out) ⌝ }
+    ensures { λ r. ⌜ Wrote (frame (now (body .entry))) (now (out .entry)) (now (out .exit)) r ⌝ }
+{
+    out[0] = 255;
+    out[1] = 250;
+    let n = put_doubled(body, &mut out[2..]);
+    let at = n + 2;
+    out[at] = 255;
+    out[at + 1] = 240;
+    n + 4
+}
+
+pub fn put_literal(x: u8, out: &mut [u8]) -> usize
+    requires { ⌜ RoomFor (literal x) (now out) ⌝ }
+    ensures { λ r. ⌜ Wrote (literal x) (now (out .entry)) (now (out .exit)) r ⌝ }
+{
+    let body = [19u8, 4, x];
+    put_frame(&body, out)
+}
+
+pub fn put_key(k: Key, out: &mut [u8]) -> usize
+    requires { ⌜ RoomFor (keyWire k) (now out) ⌝ }
+    ensures { λ r. ⌜ Wrote (keyWire k) (now (out .entry)) (now (out .exit)) r ⌝ }
+{
+    match k {
+        Key::Char(b) => put_char(b, out),
+        Key::Line => {
+            out[0] = 13;
+            out[1] = 10;
+            2
+        }
+        Key::Command(c) => {
+            out[0] = 255;
+            out[1] = c;
+            2
+        }
+    }
+}
+
+// A typed character: CR is CR NUL, 255 is doubled.
+fn put_char(b: u8, out: &mut [u8]) -> usize
+    requires { ⌜ RoomFor (keyWire (Char b)) (now out) ⌝ }
+    ensures { λ r. ⌜ Wrote (keyWire (Char b)) (now (out .entry)) (now (out .exit)) r ⌝ }
+{
+    if b == 13 {
+        out[0] = 13;
+        out[1] = 0;
+        return 2;
+    }
+    put_coded(b, out)
+}

@@ -60,7 +60,6 @@ returns-9 c =
     let e : c .before .args .class ≡ 9 = last-class _ (c .before .pre .0) (c .before .pre .1) (c .match .rest .0 .0 .0 .0 .0 .0 .0 .1) (c .match .rest .0 .0 .0 .0 .0 .0 .1) (c .match .rest .0 .0 .0 .0 .0 .1) (c .match .rest .0 .0 .0 .0 .1) (c .match .rest .0 .0 .0 .1) (c .match .rest .0 .0 .1) (c .match .rest .0 .1) (c .match .rest .1) in
     rw e
 
-
 pub bit-of-spec : {M : Type 1} → statement M
 bit-of-spec =
     tie.close

@@ -1,0 +1,149 @@
+use Rattle.wire.specs.Frames.{doubled, frame}
+use Rattle.lists.proofs.Parts.{wrote-then, wrote-more, same-long, part-room, counted}
+use Rattle.lists.proofs.Starts.{wrote-two}
+use Rattle.lists.specs.Buffers.{Wrote, RoomFor}
+use borrow.Rule.Slice.PartMut.{putMid}
+use lib.ListN.{length, take, drop, set, length-append, length-set}
+use Prim.Native.Nat.{ℕ, suc, _≤_, _<_, _-_, _+_}
+use mathlib.Core.List.{List, [], _∷_, _++_, append-assoc}
+use mathlib.Core.Path.{_≡_, refl, sym, ap}
+use native.Mathlib.Omega.{arith}
+use borrow.Author.Needs.{needs}
+use Rattle.wire.proofs.put_frame.Statement.{statement}
+use Rattle.wire.proofs.put_frame.Tie as tie
+use Rattle.wire.proofs.put_frame.Reads as reads
+use Rattle.wire.proofs.put_frame.Lts as lts
+use Rattle.wire.proofs.put_doubled.Reads as put-doubled-reads
+
+module _ (body before : List ℕ) (room : RoomFor (frame body) before) where
+  -- a frame is four bytes longer than its doubled body
+  room-all : length (doubled body) + 4 ≤ length before
+  unfolding frame
+  room-all = omega (arith, simp length-append at room)
+
+  -- IAC SB
+  opened : List ℕ
+  opened = set (set before 0 255) 1 250
+
+  opened-wrote : Wrote (255 ∷ 250 ∷ []) before opened 2
+  unfolding opened
+  opened-wrote = wrote-two before 255 250 (omega (arith, room-all))
+
+  room-two : RoomFor (255 ∷ 250 ∷ []) before
+  room-two = omega (arith, room-all)
+
+  room-body : RoomFor (doubled body) (take (length opened - 2) (drop 2 opened))
+  room-body = part-room opened-wrote room-two (doubled body) (simp length-append (omega (arith, room-all)))
+
+  module _ (last : List ℕ) (k : ℕ) (v : Wrote (doubled body) (take (length opened - 2) (drop 2 opened)) last k) where
+    filled : List ℕ
+    filled = putMid 2 (length opened - 2) opened last
+
+    filled-wrote : Wrote ((255 ∷ 250 ∷ []) ++ doubled body) before filled (2 + k)
+    unfolding filled
+    filled-wrote = wrote-then opened-wrote room-two (doubled body) last k v
+
+    room-filled : RoomFor ((255 ∷ 250 ∷ []) ++ doubled body) before
+    room-filled = simp length-append (omega (arith, room-all))
+
+    -- and the count, which is within the buffer with two bytes to spare
+    spare : k + 4 ≤ length before
+    spare = omega (arith, v .count, room-all)
+
+    long : length filled ≡ length before
+    long = same-long filled-wrote room-filled
+
+    room-last : k + 2 + 1 < length (set filled (k + 2) 255)
+    room-last = simp length-set (omega (arith, spare, long))
+
+    same : length (set (set filled (k + 2) 255) (k + 2 + 1) 240) ≡ length before
+    same = simp length-set long
+
+    closed-wrote : Wrote (frame body) before (set (set filled (k + 2) 255) (k + 2 + 1) 240) (k + 4)
+    unfolding frame
+    closed-wrote =
+        let s = spare in
+        let a : 2 + k ≡ k + 2 = omega arith in
+        let two = rw a at filled-wrote in
+        let three = wrote-more two room-filled 255 (omega arith) in
+        let four = wrote-more three (simp length-append (omega (arith, room-all))) 240 (omega arith) in
+        let d : k + 2 + 1 + 1 ≡ k + 4 = omega arith in
+        rw (append-assoc (doubled body) (255 ∷ []) (240 ∷ [])) at (rw d at four)
+
+-- src/lib.rt:72:5
+slice-write-out : tie.Need-slice-write-out
+slice-write-out c = omega (arith, room-all (c .before .before .args .body .now) (c .before .before .args .out .now) (c .before .before .pre))
+
+-- src/lib.rt:73:5
+slice-write-out-2 : tie.Need-slice-write-out-2
+slice-write-out-2 c = simp length-set (omega (arith, room-all (c .before .before .args .body .now) (c .before .before .args .out .now) (c .before .before .pre)))
+
+-- src/lib.rt:74:31
+sub-put-doubled : tie.Need-sub-put-doubled
+sub-put-doubled c = simp length-set (omega (arith, room-all (c .before .before .args .body .now) (c .before .before .args .out .now) (c .before .before .pre)))
+
+-- src/lib.rt:74:31
+part-put-doubled-start : tie.Need-part-put-doubled-start
+part-put-doubled-start c = simp length-set (omega (arith, room-all (c .before .before .args .body .now) (c .before .before .args .out .now) (c .before .before .pre)))
+
+-- src/lib.rt:74:31
+part-put-doubled-end : tie.Need-part-put-doubled-end
+part-put-doubled-end c = search needs
+
+-- src/lib.rt:74:9
+put-doubled-requires : tie.Need-put-doubled-requires
+unfolding opened
+put-doubled-requires c κs = room-body (c .before .before .before .args .body .now) (c .before .before .before .args .out .now) (c .before .before .before .pre)
+
+-- src/lib.rt:75:14
+add-at : tie.Need-add-at
+unfolding opened
+add-at c = omega (arith, spare (c .before .before .before .before .before .before .args .body .now) (c .before .before .before .before .before .before .args .out .now) (c .before .before .before .before .before .before .pre) (c .before .before .put-doubled .last .1 .0) (c .before .before .put-doubled .result) (c .before .before .put-doubled .ensures), c .before .before .before .before .before .before .good .1 .0 .0)
+
+-- src/lib.rt:76:5
+slice-write-out-3 : tie.Need-slice-write-out-3
+unfolding opened filled
+slice-write-out-3 c = omega (arith, spare (c .before .before .before .before .before .before .args .body .now) (c .before .before .before .before .before .before .args .out .now) (c .before .before .before .before .before .before .pre) (c .before .before .put-doubled .last .1 .0) (c .before .before .put-doubled .result) (c .before .before .put-doubled .ensures), long (c .before .before .before .before .before .before .args .body .now) (c .before .before .before .before .before .before .args .out .now) (c .before .before .before .before .before .before .pre) (c .before .before .put-doubled .last .1 .0) (c .before .before .put-doubled .result) (c .before .before .put-doubled .ensures))
+
+-- src/lib.rt:77:9
+add-out : tie.Need-add-out
+unfolding opened
+add-out c = omega (arith, spare (c .before .before .before .before .before .before .args .body .now) (c .before .before .before .before .before .before .args .out .now) (c .before .before .before .before .before .before .pre) (c .before .before .put-doubled .last .1 .0) (c .before .before .put-doubled .result) (c .before .before .put-doubled .ensures), c .before .before .before .before .before .before .good .1 .0 .0)
+
+-- src/lib.rt:77:5
+slice-write-out-4 : tie.Need-slice-write-out-4
+unfolding opened filled
+slice-write-out-4 c = room-last (c .before .before .before .before .before .before .args .body .now) (c .before .before .before .before .before .before .args .out .now) (c .before .before .before .before .before .before .pre) (c .before .before .put-doubled .last .1 .0) (c .before .before .put-doubled .result) (c .before .before .put-doubled .ensures)
+
+-- src/lib.rt:78:5
+add-result : tie.Need-add-result
+unfolding opened
+add-result c = omega (arith, spare (c .before .before .before .before .before .before .args .body .now) (c .before .before .before .before .before .before .args .out .now) (c .before .before .before .before .before .before .pre) (c .before .before .put-doubled .last .1 .0) (c .before .before .put-doubled .result) (c .before .before .put-doubled .ensures), c .before .before .before .before .before .before .good .1 .0 .0)
+
+-- src/lib.rt:68:1
+same-length : tie.Need-same-length
+unfolding opened filled
+same-length c = same (c .before .before .before .before .before .before .args .body .now) (c .before .before .before .before .before .before .args .out .now) (c .before .before .before .before .before .before .pre) (c .before .before .put-doubled .last .1 .0) (c .before .before .put-doubled .result) (c .before .before .put-doubled .ensures)
+
+-- src/lib.rt:68:1
+returns : tie.Need-returns
+unfolding opened filled
+returns c = closed-wrote (c .before .before .before .before .before .before .args .body .now) (c .before .before .before .before .before .before .args .out .now) (c .before .before .before .before .before .before .pre) (c .before .before .put-doubled .last .1 .0) (c .before .before .put-doubled .result) (c .before .before .put-doubled .ensures)
+
+pub put-frame-spec : {M : Type 1} → statement M
+put-frame-spec =
+    tie.close
+    (tie.spec
+    slice-write-out
+    slice-write-out-2
+    sub-put-doubled
+    part-put-doubled-start
+    part-put-doubled-end
+    put-doubled-requires
+    add-at
+    slice-write-out-3
+    add-out
+    slice-write-out-4
+    add-result
+    same-length
+    returns)
