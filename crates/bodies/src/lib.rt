@@ -1,4 +1,34 @@
 // The parsed bodies of RCTE, BM and NAOCRD. Each has a case for a body that is not of the right shape.
+ghost use mathlib.Core.Path.{_≡_};
+ghost use mathlib.Core.Bool.{true};
+ghost use Prim.Native.Nat.{_+_, _<_};
+ghost use lib.ListN.{length};
+ghost use Rattle.lists.specs.Choice.{pick};
+ghost use Rattle.bodies.specs.RcteBodies.{bit, actionOf, pairAt, classesAt, rcteLength, performed, rcteBody};
+ghost use Rattle.bodies.specs.MacroBodies.{macroBody, replyBody};
+ghost use Rattle.bodies.specs.ValueBodies.{isBadValue, valueBody};
+
+// The subcommands of BM.
+const DEFINE: u8 = 1;
+
+const ACCEPT: u8 = 2;
+
+const REFUSE: u8 = 3;
+
+const LITERAL: u8 = 4;
+
+const PLEASE_CANCEL: u8 = 5;
+
+const IAC: u8 = 255;
+
+// The bits of an RCTE command, each by its weight.
+const SKIPS_BREAK: u8 = 2;
+
+const SKIPS_TEXT: u8 = 4;
+
+const SETS_BREAKS: u8 = 8;
+
+const SETS_SENDS: u8 = 16;
 
 // Which keys are not printed: break characters, and text up to them.
 pub struct Action {
@@ -49,4 +79,159 @@ pub enum ReplyBody {
 pub enum ValueBody {
     Readable(u8),
     Unreadable,
+}
+
+fn has_bit(cmd: u8, weight: u8) -> bool
+    requires { ⌜ 0 < weight ⌝ }
+    ensures { λ r. ⌜ r ≡ bit weight cmd ⌝ }
+{
+    cmd / weight % 2 == 1
+}
+
+fn action_of(cmd: u8) -> Action
+    ensures { λ r. ⌜ r ≡ actionOf cmd ⌝ }
+{
+    Action {
+        skipbreak: has_bit(cmd, SKIPS_BREAK),
+        skiptext: has_bit(cmd, SKIPS_TEXT),
+    }
+}
+
+// A class pair takes two bytes where its bit is on.
+fn pair_length(set: bool) -> usize
+    ensures { λ r. ⌜ r ≡ pick set 2 0 ⌝ }
+{
+    if set { 2 } else { 0 }
+}
+
+fn rcte_length(cmd: u8) -> usize
+    ensures { λ r. ⌜ r ≡ rcteLength cmd ⌝ }
+{
+    let breaks = pair_length(has_bit(cmd, SETS_BREAKS));
+    let sends = pair_length(has_bit(cmd, SETS_SENDS));
+    2 + breaks + sends
+}
+
+fn pair_at(body: &[u8], at: usize) -> u16
+    requires { ⌜ at + 1 < length (now body) ⌝ }
+    ensures { λ r. ⌜ r ≡ pairAt (now (body .entry)) at ⌝ }
+{
+    256 * (body[at] as u16) + (body[at + 1] as u16)
+}
+
+fn classes_at(set: bool, body: &[u8], at: usize) -> Classes
+    requires { ⌜ (set ≡ true → at + 1 < length (now body)) ⌝ }
+    ensures { λ r. ⌜ r ≡ classesAt set (now (body .entry)) at ⌝ }
+{
+    if set {
+        return Classes::New(pair_at(body, at));
+    }
+    Classes::Same
+}
+
+// An odd command with a body of its length.
+fn perform(cmd: u8, body: &[u8]) -> RcteCommand
+    requires { ⌜ length (now body) ≡ rcteLength cmd ⌝ }
+    ensures { λ r. ⌜ r ≡ performed cmd (now (body .entry)) ⌝ }
+{
+    let action = action_of(cmd);
+    let set_breaks = has_bit(cmd, SETS_BREAKS);
+    let breaks = classes_at(set_breaks, body, 2);
+    let set_sends = has_bit(cmd, SETS_SENDS);
+    let sends = classes_at(set_sends, body, 2 + pair_length(set_breaks));
+    RcteCommand::Perform(action, breaks, sends)
+}
+
+pub fn rcte_body(body: &[u8]) -> RcteBody
+    ensures { λ r. ⌜ r ≡ rcteBody (now (body .entry)) ⌝ }
+{
+    let n = body.len();
+    if n < 2 {
+        return RcteBody::Unreadable;
+    }
+    let cmd = body[1];
+    if cmd % 2 == 0 {
+        if n == 2 {
+            return RcteBody::Readable(RcteCommand::Repeat);
+        }
+        return RcteBody::Unreadable;
+    }
+    if cmd > 31 {
+        return RcteBody::Unreadable;
+    }
+    if n != rcte_length(cmd) {
+        return RcteBody::Unreadable;
+    }
+    RcteBody::Readable(perform(cmd, body))
+}
+
+pub fn macro_body(body: &[u8]) -> MacroBody
+    ensures { λ r. ⌜ r ≡ macroBody (now (body .entry)) ⌝ }
+{
+    let n = body.len();
+    if n < 3 {
+        return MacroBody::Unreadable;
+    }
+    let subcommand = body[1];
+    let x = body[2];
+    match subcommand {
+        DEFINE => MacroBody::Readable(MacroCommand::Define(x)),
+        LITERAL => {
+            if n != 3 || x == IAC {
+                return MacroBody::Unreadable;
+            }
+            MacroBody::Readable(MacroCommand::Literal(x))
+        }
+        _ => MacroBody::Unreadable,
+    }
+}
+
+pub fn reply_body(body: &[u8]) -> ReplyBody
+    ensures { λ r. ⌜ r ≡ replyBody (now (body .entry)) ⌝ }
+{
+    let n = body.len();
+    if n < 3 {
+        return ReplyBody::Unreadable;
+    }
+    let subcommand = body[1];
+    let x = body[2];
+    match subcommand {
+        ACCEPT => reply_of(n == 3, MacroReply::Accept(x)),
+        REFUSE => reply_of(n == 4, MacroReply::Refuse(x)),
+        PLEASE_CANCEL => reply_of(n == 4, MacroReply::PleaseCancel(x)),
+        _ => ReplyBody::Unreadable,
+    }
+}
+
+fn reply_of(shaped: bool, reply: MacroReply) -> ReplyBody
+    ensures { λ r. ⌜ r ≡ pick shaped (ReplyBody.Readable reply) ReplyBody.Unreadable ⌝ }
+{
+    if shaped {
+        ReplyBody::Readable(reply)
+    } else {
+        ReplyBody::Unreadable
+    }
+}
+
+// 251 and 253 are not allowed.
+pub fn bad_value(v: u8) -> bool
+    ensures { λ r. ⌜ r ≡ isBadValue v ⌝ }
+{
+    v == 251 || v == 253
+}
+
+pub fn value_body(who: u8, body: &[u8]) -> ValueBody
+    ensures { λ r. ⌜ r ≡ valueBody who (now (body .entry)) ⌝ }
+{
+    if body.len() != 3 {
+        return ValueBody::Unreadable;
+    }
+    if body[1] != who {
+        return ValueBody::Unreadable;
+    }
+    let v = body[2];
+    if bad_value(v) {
+        return ValueBody::Unreadable;
+    }
+    ValueBody::Readable(v)
 }

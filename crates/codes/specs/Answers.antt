@@ -1,4 +1,4 @@
--- The codes and notes of an answer, with the paper's numbers, and how a call's refusals are ordered.
+-- The codes and notes of an answer, with their numbers, and how a call's refusals are ordered.
 use mathlib.Core.Bool.{Bool, _||_}
 use mathlib.Core.List.{List, [], _∷_}
 use Prim.Native.Nat.{ℕ}

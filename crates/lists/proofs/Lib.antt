@@ -2,3 +2,4 @@ pub mod Tables
 pub mod Starts
 pub mod Parts
 pub mod Joined
+pub mod Appended

@@ -1,5 +1,30 @@
 // Reading the wire: bytes to items. The reader knows no macro and no option.
+ghost use mathlib.Core.Path.{_≡_};
+ghost use Rattle.reader.specs.Reading.{inPhase, gives, keeping, marring, commandRead, bodyCommandRead, readIn, read, isBetween};
+ghost use Rattle.reader.specs.Kept.{viewReader, MetIdle, MetRead};
 use codes::Verb;
+
+// The commands that the reader tells apart.
+const SE: u8 = 240;
+
+const NOP: u8 = 241;
+
+const GA: u8 = 249;
+
+const SB: u8 = 250;
+
+const WILL: u8 = 251;
+
+const WONT: u8 = 252;
+
+const DO: u8 = 253;
+
+const DONT: u8 = 254;
+
+const IAC: u8 = 255;
+
+// The first bytes of a body that are kept, its option among them.
+const BODY_ROOM: usize = 260;
 
 // Where the reader stands. Between is between commands.
 pub enum Phase {
@@ -17,4 +42,154 @@ pub enum Item {
     Negotiated(Verb, u8),
     BodyEnd,
     StrayCommand,
+}
+
+// The body read last stands in the first len cells.
+pub struct Reader {
+    pub phase: Phase,
+    pub marred: bool,
+    pub body: [u8; 260],
+    pub len: usize,
+}
+
+pub struct Read {
+    pub item: Item,
+    pub reader: Reader,
+}
+
+pub fn idle() -> Reader
+    ensures { λ r. ⌜ MetIdle r ⌝ }
+{
+    Reader {
+        phase: Phase::Between,
+        marred: false,
+        body: [0u8; 260],
+        len: 0,
+    }
+}
+
+pub fn is_between(r: Reader) -> bool
+    ensures { λ b. ⌜ b ≡ isBetween (r .phase) ⌝ }
+{
+    let phase = r.phase;
+    match phase {
+        Phase::Between => true,
+        Phase::AfterIac => false,
+        Phase::AfterVerb(_) => false,
+        Phase::InBody => false,
+        Phase::InBodyAfterIac => false,
+    }
+}
+
+// The item, and the same reader in another phase.
+fn stepped(r: Reader, phase: Phase, item: Item) -> Read
+    ensures { λ x. ⌜ MetRead (gives item (inPhase (viewReader r) phase)) r x ⌝ }
+{
+    let body = r.body;
+    Read {
+        item,
+        reader: Reader {
+            phase,
+            marred: r.marred,
+            body,
+            len: r.len,
+        },
+    }
+}
+
+// A byte of the body: past the room it is dropped.
+fn kept(r: Reader, b: u8) -> Read
+    ensures { λ x. ⌜ MetRead (gives Item.Nothing (keeping (viewReader r) b)) r x ⌝ }
+{
+    let len = r.len;
+    if len < BODY_ROOM {
+        let mut body = r.body;
+        body[len] = b;
+        return Read {
+            item: Item::Nothing,
+            reader: Reader {
+                phase: Phase::InBody,
+                marred: r.marred,
+                body,
+                len: len + 1,
+            },
+        };
+    }
+    stepped(r, Phase::InBody, Item::Nothing)
+}
+
+fn marred(r: Reader) -> Read
+    ensures { λ x. ⌜ MetRead (gives Item.Nothing (marring (viewReader r))) r x ⌝ }
+{
+    let body = r.body;
+    Read {
+        item: Item::Nothing,
+        reader: Reader {
+            phase: Phase::InBody,
+            marred: true,
+            body,
+            len: r.len,
+        },
+    }
+}
+
+fn text_byte(r: Reader, b: u8) -> Read
+    ensures { λ x. ⌜ MetRead (readIn Phase.Between (viewReader r) b) r x ⌝ }
+{
+    if b == IAC {
+        return stepped(r, Phase::AfterIac, Item::Nothing);
+    }
+    Read {
+        item: Item::Data(b),
+        reader: r,
+    }
+}
+
+// The byte after IAC.
+fn command_byte(r: Reader, b: u8) -> Read
+    ensures { λ x. ⌜ MetRead (commandRead (viewReader r) b) r x ⌝ }
+{
+    match b {
+        IAC => stepped(r, Phase::Between, Item::Data(IAC)),
+        SB => stepped(idle(), Phase::InBody, Item::Nothing),
+        WILL => stepped(r, Phase::AfterVerb(Verb::Will), Item::Nothing),
+        WONT => stepped(r, Phase::AfterVerb(Verb::Wont), Item::Nothing),
+        DO => stepped(r, Phase::AfterVerb(Verb::Do), Item::Nothing),
+        DONT => stepped(r, Phase::AfterVerb(Verb::Dont), Item::Nothing),
+        NOP..=GA => stepped(r, Phase::Between, Item::Nothing),
+        _ => stepped(r, Phase::Between, Item::StrayCommand),
+    }
+}
+
+fn body_byte(r: Reader, b: u8) -> Read
+    ensures { λ x. ⌜ MetRead (readIn Phase.InBody (viewReader r) b) r x ⌝ }
+{
+    if b == IAC {
+        return stepped(r, Phase::InBodyAfterIac, Item::Nothing);
+    }
+    kept(r, b)
+}
+
+// The byte after IAC in a body.
+fn body_command_byte(r: Reader, b: u8) -> Read
+    ensures { λ x. ⌜ MetRead (bodyCommandRead (viewReader r) b) r x ⌝ }
+{
+    match b {
+        IAC => kept(r, IAC),
+        SE => stepped(r, Phase::Between, Item::BodyEnd),
+        _ => marred(r),
+    }
+}
+
+pub fn read_byte(r: Reader, b: u8) -> Read
+    ensures { λ x. ⌜ MetRead (read (viewReader r) b) r x ⌝ }
+{
+    let phase = r.phase;
+    match phase {
+        Phase::Between => text_byte(r, b),
+        Phase::AfterIac => command_byte(r, b),
+        Phase::AfterVerb(v) => stepped(r, Phase::Between, Item::Negotiated(v, b)),
+        Phase::InBody => body_byte(r, b),
+        Phase::InBodyAfterIac => body_command_byte(r, b),
+    }
 }

@@ -1,17 +1,46 @@
--- The worked examples, by computation.
-use mathlib.Core.Path.{_≡_, refl}
-use mathlib.Core.List.{List, [], _∷_, _++_, map}
+-- The worked examples, by computation: the rules' bytes are compared with the expected ones by a test, and the test's
+-- answer is turned into the equation.
+use mathlib.Core.Path.{_≡_, refl, ap₂}
+use mathlib.Core.Bool.{Bool, true, false, _&&_}
+use mathlib.Core.List.{List, [], _∷_, map}
 use Prim.Native.Nat.{ℕ}
+use lib.Dec.{eqb}
+use borrow.Author.Tests.{eqb-true}
+use Rattle.lists.proofs.Tables.{both-left, both-right}
 use Rattle.worked.specs.Opened.{printerRules, tapeRules}
 use Rattle.worked.specs.OpenedBulletin.{bulletinRules}
-use Rattle.worked.specs.Showing.{bytesDifference}
-use Rattle.worked.specs.Starred.{StarredHold, starred}
+use Rattle.worked.specs.Showing.{sameBytes}
+use Rattle.worked.specs.Starred.{Example, starred, StarredHold}
 use Rattle.worked.specs.Listing.{ListingHolds}
+use Rattle.worked.specs.Rfc560.{InteractionHolds}
+use mathlib.Core.Bool.{false≢true}
 
-t1 : map (λ e. bytesDifference 1 (e .gives) (e .says)) starred ≡ 0 ∷ 0 ∷ 0 ∷ 0 ∷ 0 ∷ 0 ∷ 0 ∷ 0 ∷ 0 ∷ 0 ∷ 0 ∷ 0 ∷ 0 ∷ 0 ∷ []
-unfolding printerRules bulletinRules bytesDifference
-t1 = refl
+pub same-bytes : (as′ bs : List ℕ) → sameBytes as′ bs ≡ true → as′ ≡ bs
+unfolding sameBytes
+same-bytes [] [] e = refl
+same-bytes [] (b ∷ bs) e = absurd (false≢true e)
+same-bytes (a ∷ as′) [] e = absurd (false≢true e)
+same-bytes (a ∷ as′) (b ∷ bs) e =
+    rw (eqb-true a b (both-left (eqb a b) (sameBytes as′ bs) e), same-bytes as′ bs (both-right (eqb a b) (sameBytes as′ bs) e))
+
+allSame : List Example → Bool
+allSame [] = true
+allSame (x ∷ xs) = sameBytes (x .gives) (x .says) && allSame xs
+
+all-hold : (xs : List Example) → allSame xs ≡ true → map (λ x. x .gives) xs ≡ map (λ x. x .says) xs
+unfolding allSame
+all-hold [] e = refl
+all-hold (x ∷ xs) e =
+    rw (same-bytes (x .gives) (x .says) (both-left (sameBytes (x .gives) (x .says)) (allSame xs) e), all-hold xs (both-right (sameBytes (x .gives) (x .says)) (allSame xs) e))
+
+pub starred-hold : StarredHold
+unfolding printerRules bulletinRules sameBytes allSame
+starred-hold = all-hold starred refl
 
 pub listing-holds : ListingHolds
-unfolding tapeRules
-listing-holds = refl
+unfolding tapeRules sameBytes
+listing-holds = same-bytes _ _ refl
+
+pub interaction-holds : InteractionHolds
+unfolding printerRules sameBytes
+interaction-holds = (same-bytes _ _ refl, same-bytes _ _ refl)

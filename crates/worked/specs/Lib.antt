@@ -4,3 +4,4 @@ pub mod Showing
 pub mod Bytes
 pub mod Starred
 pub mod Listing
+pub mod Rfc560

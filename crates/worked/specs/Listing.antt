@@ -1,4 +1,4 @@
--- The paper's tape, and the lines that it prints.
+-- A tape, and the lines that it prints.
 use mathlib.Core.Path.{_≡_}
 use mathlib.Core.List.{List, [], _∷_, _++_}
 use Prim.Native.Nat.{ℕ}

@@ -8,7 +8,7 @@ use Rattle.keys.specs.Keys.{classOf}
 use Rattle.bulletin.specs.Session as BS
 use Rattle.worked.specs.Bytes.{reads, types, hears, paperOf, wireOf, notesOf, bulletinWireOf}
 
--- what the rules give, and what the paper says
+-- what the rules give, and what the example says
 pub record Example : Type 0 where
   pub gives : List ℕ
   pub says : List ℕ
@@ -71,11 +71,13 @@ starred =
     ∷ example (bulletinWireOf (senderHandles ++ (receiverSays 3 ++ sendsItem (Char 13)))) (senderHandlesWire ++ 0x0d ∷ 0 ∷ 0 ∷ 0 ∷ 0 ∷ [])
     ∷ example (bulletinWireOf (senderHandles ++ (receiverSays 252 ++ sendsItem Line))) (senderHandlesWire ++ 0x0a ∷ [])
     ∷ example (bulletinWireOf (senderHandles ++ sendsItem Line)) (senderHandlesWire ++ 0x0d ∷ 0x0a ∷ [])
+    ∷ example (rcteWith (7 ∷ 2 ∷ [])) (0xff ∷ 0xfd ∷ 0x07 ∷ 0x41 ∷ 0x61 ∷ 0x42 ∷ [])
     ∷ example (rcteWith (7 ∷ 2 ∷ [])) (rcteWith (7 ∷ 0 ∷ []))
+    ∷ example (rctePaper (7 ∷ 2 ∷ [])) (0x41 ∷ 0x42 ∷ [])
     ∷ example (rctePaper (7 ∷ 2 ∷ [])) (rctePaper (7 ∷ 0 ∷ []))
     ∷ example (notesOf (reads (0xff ∷ 0xfb ∷ 0x07 ∷ 0xff ∷ 0xfa ∷ 0x07 ∷ 0x02 ∷ 0x00 ∷ 0x00 ∷ 0xff ∷ 0xf0 ∷ []))) (0 ∷ 0 ∷ 0 ∷ 0 ∷ 0 ∷ 0 ∷ 0 ∷ 0 ∷ 0 ∷ 0 ∷ 1 ∷ [])
     ∷ []
 
--- the claim: the rules give what the paper says
+-- the claim: the rules give what the examples say
 abbrev pub StarredHold : Type 0
 StarredHold = map (λ e. e .gives) starred ≡ map (λ e. e .says) starred
