@@ -1,6 +1,7 @@
 // What a call answers: a code and a note. Which end and which side of an option is meant.
 ghost use mathlib.Core.Path.{_≡_};
-ghost use Rattle.codes.specs.Telnet.{verbNumber};
+ghost use Rattle.codes.specs.Answers.{codeNumber, noteNumber, firstNote};
+ghost use Rattle.codes.specs.Telnet.{verbNumber, whoseOf, enables, plainCommand, otherSide};
 
 // A refusal leaves the state and every lent byte as they were; Done is the one code that does not refuse.
 pub enum Code {
@@ -43,6 +44,54 @@ pub enum Whose {
     Ours,
 }
 
+// The number that a code is known by.
+pub fn code_number(c: Code) -> u8
+    ensures { λ r. ⌜ r ≡ codeNumber c ⌝ }
+{
+    match c {
+        Code::Done => 0,
+        Code::NoRoom => 1,
+        Code::QueueFull => 2,
+        Code::BadCommand => 3,
+        Code::NotCarried => 4,
+        Code::AlreadySo => 5,
+        Code::NotInForce => 6,
+        Code::BadMacroByte => 7,
+        Code::TooLong => 8,
+        Code::Unanswered => 9,
+        Code::NoText => 10,
+        Code::EchoAgainstRcte => 11,
+        Code::BadValue => 12,
+        Code::OutputWaits => 13,
+    }
+}
+
+pub fn note_number(n: Note) -> u8
+    ensures { λ r. ⌜ r ≡ noteNumber n ⌝ }
+{
+    match n {
+        Note::Clear => 0,
+        Note::Unreadable => 1,
+        Note::Inactive => 2,
+        Note::OtherOption => 3,
+        Note::Stray => 4,
+    }
+}
+
+// The note of a call whose steps gave a and then b.
+pub fn first_note(a: Note, b: Note) -> Note
+    ensures { λ r. ⌜ r ≡ firstNote a b ⌝ }
+{
+    match a {
+        Note::Clear => b,
+        Note::Unreadable => Note::Unreadable,
+        Note::Inactive => Note::Inactive,
+        Note::OtherOption => Note::OtherOption,
+        Note::Stray => Note::Stray,
+    }
+}
+
+// The byte behind IAC.
 pub fn verb_number(v: Verb) -> u8
     ensures { λ r. ⌜ r ≡ verbNumber v ⌝ }
 {
@@ -52,4 +101,45 @@ pub fn verb_number(v: Verb) -> u8
         Verb::Do => 253,
         Verb::Dont => 254,
     }
+}
+
+// The side that a verb received is about.
+pub fn whose_of(v: Verb) -> Whose
+    ensures { λ r. ⌜ r ≡ whoseOf v ⌝ }
+{
+    match v {
+        Verb::Will => Whose::His,
+        Verb::Wont => Whose::His,
+        Verb::Do => Whose::Ours,
+        Verb::Dont => Whose::Ours,
+    }
+}
+
+// Whether a verb is a request.
+pub fn enables(v: Verb) -> bool
+    ensures { λ r. ⌜ r ≡ enables v ⌝ }
+{
+    match v {
+        Verb::Will => true,
+        Verb::Wont => false,
+        Verb::Do => true,
+        Verb::Dont => false,
+    }
+}
+
+// The side as the end across the line sees it.
+pub fn other_side(w: Whose) -> Whose
+    ensures { λ r. ⌜ r ≡ otherSide w ⌝ }
+{
+    match w {
+        Whose::His => Whose::Ours,
+        Whose::Ours => Whose::His,
+    }
+}
+
+// Whether a byte is one of the commands that a key may be, NOP to GA.
+pub fn plain_command(c: u8) -> bool
+    ensures { λ r. ⌜ r ≡ plainCommand c ⌝ }
+{
+    c >= 241 && c <= 249
 }

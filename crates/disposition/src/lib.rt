@@ -1,4 +1,10 @@
 // Carriage-return disposition (NAOCRD): the two values that were suggested, and who handles carriage returns, and how.
+ghost use mathlib.Core.Path.{_≡_};
+ghost use mathlib.Core.List.{[], _∷_};
+ghost use lib.ListN.{replicate};
+ghost use Rattle.lists.specs.Buffers.{RoomFor, Wrote};
+ghost use Rattle.disposition.specs.Returns.{handling, awaits, isReturn, padded, lineBytes, returnBytes};
+use keys::Key;
 
 // DS, the bulletin end's value, and DR, the printer end's.
 pub struct Values {
@@ -10,4 +16,91 @@ pub struct Values {
 pub enum Handling {
     Sender(u8),
     Receiver(u8),
+}
+
+pub fn handling_of(v: Values) -> Handling
+    ensures { λ r. ⌜ r ≡ handling v ⌝ }
+{
+    let ds = v.ds;
+    if ds == 0 {
+        Handling::Sender(v.dr)
+    } else {
+        Handling::Receiver(ds)
+    }
+}
+
+// Whether output waits after a carriage return that was sent.
+pub fn awaits(h: Handling) -> bool
+    ensures { λ r. ⌜ r ≡ awaits h ⌝ }
+{
+    match h {
+        Handling::Sender(n) => n == 254,
+        Handling::Receiver(_) => false,
+    }
+}
+
+pub fn is_return(k: Key) -> bool
+    ensures { λ r. ⌜ r ≡ isReturn k ⌝ }
+{
+    match k {
+        Key::Char(b) => b == 13,
+        Key::Line => true,
+        Key::Command(_) => false,
+    }
+}
+
+// n NULs at the start of out; their count.
+fn put_nuls(n: u8, out: &mut [u8]) -> usize
+    requires { ⌜ RoomFor (replicate n 0) (now out) ⌝ }
+    ensures { λ r. ⌜ Wrote (replicate n 0) (now (out .entry)) (now (out .exit)) r ⌝ }
+{
+    let count = n as usize;
+    let mut i: usize = 0;
+    while i < count {
+        out[i] = 0;
+        i += 1;
+    }
+    count
+}
+
+// CR and the byte behind it, with the NULs that a value asks for.
+fn put_padded(second: u8, n: u8, out: &mut [u8]) -> usize
+    requires { ⌜ RoomFor (padded n (13 ∷ second ∷ [])) (now out) ⌝ }
+    ensures { λ r. ⌜ Wrote (padded n (13 ∷ second ∷ [])) (now (out .entry)) (now (out .exit)) r ⌝ }
+{
+    out[0] = 13;
+    out[1] = second;
+    match n {
+        1..=250 => 2 + put_nuls(n, &mut out[2..]),
+        _ => 2,
+    }
+}
+
+// A Line as this end sends it.
+pub fn put_line(h: Handling, out: &mut [u8]) -> usize
+    requires { ⌜ RoomFor (lineBytes h) (now out) ⌝ }
+    ensures { λ r. ⌜ Wrote (lineBytes h) (now (out .entry)) (now (out .exit)) r ⌝ }
+{
+    match h {
+        Handling::Sender(n) => {
+            if n == 252 {
+                out[0] = 10;
+                1
+            } else {
+                put_padded(10, n, out)
+            }
+        }
+        Handling::Receiver(_) => put_padded(10, 0, out),
+    }
+}
+
+// Char(13) as this end sends it.
+pub fn put_return(h: Handling, out: &mut [u8]) -> usize
+    requires { ⌜ RoomFor (returnBytes h) (now out) ⌝ }
+    ensures { λ r. ⌜ Wrote (returnBytes h) (now (out .entry)) (now (out .exit)) r ⌝ }
+{
+    match h {
+        Handling::Sender(n) => { if n == 252 { 0 } else { put_padded(0, n, out) } }
+        Handling::Receiver(_) => put_padded(0, 0, out),
+    }
 }
