@@ -2,3 +2,4 @@ pub mod State
 pub mod Network
 pub mod Calls
 pub mod Session
+pub mod Limits

@@ -3,3 +3,4 @@ pub mod Starts
 pub mod Parts
 pub mod Joined
 pub mod Appended
+pub mod Lengths

@@ -1,0 +1,2 @@
+pub mod LimitsBytes
+pub mod Limits

@@ -1,0 +1,110 @@
+-- How long the bytes are that the bulletin end sends: frames, definitions, orders and the data of a text item.
+use mathlib.Core.Path.{_≡_, refl}
+use mathlib.Core.Bool.{Bool, true, false, _||_}
+use mathlib.Core.List.{List, [], _∷_, _++_}
+use Prim.Native.Nat.{ℕ, _+_, _*_, _≤_}
+use native.Mathlib.Omega.{arith}
+use borrow.Author.Tests.{ltb-false, leb-true}
+use lib.Dec.{ltb, leb, eqb, lit≤}
+use lib.ListN.{length, length-append, length-replicate}
+use Rattle.lists.specs.Choice.{pick, between}
+use Rattle.lists.specs.Lists.{joined}
+use Rattle.lists.proofs.Lengths.{chosen, either, joined-within}
+use Rattle.lists.proofs.Tables.{both-right}
+use Rattle.codes.specs.Telnet.{IAC, RCTE, BM, DEFINE}
+use Rattle.codes.specs.declared.Whose.{Whose}
+use Rattle.keys.specs.declared.Key.{Key}
+use Rattle.keys.specs.declared.Key.the-variants.{Char, Line, Command}
+use Rattle.wire.specs.Frames.{coded, doubled, frame}
+use Rattle.negotiation.specs.declared.Reply.{Reply}
+use Rattle.negotiation.specs.declared.Reply.the-variants.{Silent, Positive, Negative}
+use Rattle.negotiation.specs.Carried.{replyBytes}
+use Rattle.macros.specs.Texts.{textRoom}
+use Rattle.bodies.specs.RcteBodies.{setsBreaks, setsSends}
+use Rattle.definitions.specs.Sending.{Definitions, sentOf, isFree, stored, storedRoom, sentTotal, defining, isTooLong, defineBytes, dataBytes}
+use Rattle.disposition.specs.declared.Handling.{Handling}
+use Rattle.disposition.specs.declared.Handling.the-variants.{Sender, Receiver}
+use Rattle.disposition.specs.Returns.{padded, lineBytes, returnBytes, itemData}
+use Rattle.bulletin.specs.Calls.{pairBytes, orderBytes, itemBytes}
+
+pub reply-long : (whose : Whose) (r : Reply) (option : ℕ) → length (replyBytes whose r option) ≤ 3
+reply-long whose Silent option = lit≤ tt
+reply-long whose Positive option = lit≤ tt
+reply-long whose Negative option = lit≤ tt
+
+doubled-long : (bs : List ℕ) → length (doubled bs) ≤ 2 * length bs
+unfolding coded
+doubled-long bs = joined-within coded 2 (λ b. either (λ (l : List ℕ). length l ≤ 2) (eqb b IAC) (lit≤ tt) (lit≤ tt)) bs
+
+-- a frame doubles its body at most, and adds four bytes
+pub frame-long : (body : List ℕ) → length (frame body) ≤ 2 * length body + 4
+unfolding frame
+frame-long body = simp length-append (omega (arith, doubled-long body))
+
+pub define-long : (x : ℕ) (text : List ℕ) → length (defineBytes x text) ≤ 2 * length (stored text) + 12
+unfolding defineBytes
+define-long x text = omega (arith, frame-long (BM ∷ DEFINE ∷ x ∷ length (stored text) ∷ stored text))
+
+-- PLEASE CANCEL's answer
+pub cancel-long : (x : ℕ) → length (defineBytes x (x ∷ [])) ≤ 16
+cancel-long x = omega (arith, define-long x (x ∷ []), doubled-long (x ∷ []))
+
+pub order-long : (cmd breaks sends : ℕ) → length (orderBytes cmd breaks sends) ≤ 16
+unfolding orderBytes
+order-long cmd breaks sends =
+    let one = pair-long (setsBreaks cmd) breaks in
+    let two = pair-long (setsSends cmd) sends in
+    omega (arith, simp length-append at (frame-long (RCTE ∷ cmd ∷ (pairBytes (setsBreaks cmd) breaks ++ pairBytes (setsSends cmd) sends))))
+  where
+    pair-long : (b : Bool) (pair : ℕ) → length (pairBytes b pair) ≤ 2
+    pair-long true pair = lit≤ tt
+    pair-long false pair = lit≤ tt
+
+-- at most 250 NULs behind a carriage return
+abbrev Padded : List ℕ → Type 0
+Padded bytes = length bytes ≤ 252
+
+padded-long : (n a b : ℕ) → Padded (padded n (a ∷ b ∷ []))
+unfolding padded
+padded-long n a b =
+    chosen Padded (between 1 250 n)
+    (λ e. simp length-replicate (omega (arith, leb-true n 250 (both-right (leb 1 n) (leb n 250) e))))
+    (λ e. lit≤ tt)
+
+line-long : (h : Handling) → Padded (lineBytes h)
+line-long (Sender n) = either Padded (eqb n 252) (lit≤ tt) (padded-long n 13 10)
+line-long (Receiver n) = lit≤ tt
+
+return-long : (h : Handling) → Padded (returnBytes h)
+return-long (Sender n) = either Padded (eqb n 252) (lit≤ tt) (padded-long n 13 0)
+return-long (Receiver n) = lit≤ tt
+
+data-long : (h : Handling) (k : Key) → Padded (itemData h k)
+unfolding itemData
+data-long h (Char b) = either Padded (eqb b 13) (return-long h) (lit≤ tt)
+data-long h Line = line-long h
+data-long h (Command c) = lit≤ tt
+
+-- a LITERAL is seven bytes, and 255 is none
+byte-long : (t : Definitions) (b : ℕ) → length (dataBytes t b) ≤ 7
+unfolding dataBytes coded frame joined
+byte-long t b = go (eqb b IAC) (isFree (sentOf t b))
+  where
+    go : (iac free : Bool) → length (pick iac (pick iac (255 ∷ 255 ∷ []) (b ∷ [])) (pick free (b ∷ []) (255 ∷ 250 ∷ 19 ∷ 4 ∷ ((pick iac (255 ∷ 255 ∷ []) (b ∷ []) ++ []) ++ 255 ∷ 240 ∷ [])))) ≤ 7
+    go true free = lit≤ tt
+    go false true = lit≤ tt
+    go false false = lit≤ tt
+
+pub item-long : (t : Definitions) (h : Handling) (k : Key) → length (itemBytes t h k) ≤ 1764
+item-long t h (Char b) = omega (arith, joined-within (dataBytes t) 7 (byte-long t) (itemData h (Char b)), data-long h (Char b))
+item-long t h Line = omega (arith, joined-within (dataBytes t) 7 (byte-long t) (itemData h Line), data-long h Line)
+item-long t h (Command c) = lit≤ tt
+
+-- a text that is not too long
+pub stored-long : (t : Definitions) (x : ℕ) (text : List ℕ) → isTooLong t x text ≡ false → length (stored text) ≤ storedRoom
+unfolding isTooLong
+stored-long t x text e = ltb-false storedRoom (length (stored text)) (neither-left (ltb storedRoom (length (stored text))) (ltb textRoom (sentTotal (defining t x text))) e)
+  where
+    neither-left : (a b : Bool) → (a || b) ≡ false → a ≡ false
+    neither-left true b e = e
+    neither-left false b e = refl

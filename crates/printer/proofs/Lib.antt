@@ -1,0 +1,4 @@
+pub mod LimitsEcho
+pub mod LimitsReader
+pub mod LimitsNetwork
+pub mod Limits

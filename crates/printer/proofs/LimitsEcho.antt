@@ -1,0 +1,114 @@
+-- What RCTE's control writes is paid for by the gathered bytes and the waiting keys that it uses up: each key has at most
+-- two bytes of paper and two of wire.
+use mathlib.Core.Path.{_≡_, refl}
+use mathlib.Core.Bool.{Bool, true, false}
+use mathlib.Core.List.{List, [], _∷_, _++_}
+use Prim.Native.Nat.{ℕ, _+_, _*_, _≤_}
+use native.Mathlib.Omega.{arith}
+use borrow.Author.Tests.{ltb-false, leb-false}
+use lib.Dec.{ltb, eqb, lit≤}
+use lib.ListN.{length, length-append}
+use Rattle.lists.specs.Choice.{pick}
+use Rattle.lists.proofs.Lengths.{chosen, either, joined-within}
+use Rattle.keys.specs.declared.Key.{Key}
+use Rattle.keys.specs.declared.Key.the-variants.{Char, Line, Command}
+use Rattle.keys.specs.Keys.{keyPaper, keyWire, prints}
+use Rattle.echo.specs.Taking.{Orders, Taken, takenUp, gatherRoom, overflows, flushes, isSkipped, sentPaper}
+use Rattle.echo.specs.Control.{Echo, Echoed, waitRoom, isFull, pressed, stoppedAt, behind, released, ended}
+
+abbrev Two : List ℕ → Type 0
+Two bytes = length bytes ≤ 2
+
+pub key-paper : (k : Key) → length (keyPaper k) ≤ 2
+unfolding keyPaper
+key-paper (Char b) = either Two (prints b) (lit≤ tt) (lit≤ tt)
+key-paper Line = lit≤ tt
+key-paper (Command c) = lit≤ tt
+
+pub key-wire : (k : Key) → length (keyWire k) ≤ 2
+unfolding keyWire
+key-wire (Char b) = either Two (eqb b 13) (lit≤ tt) (either Two (eqb b 255) (lit≤ tt) (lit≤ tt))
+key-wire Line = lit≤ tt
+key-wire (Command c) = lit≤ tt
+
+-- one key taken up
+pub record Takes (gathered : List ℕ) (t : Taken) : Type 0 where
+  pub paper : length (t .paper) ≤ 2
+  pub wire : length (t .wire) + length (t .gathered) ≤ length gathered + 2
+  pub room : length gathered ≤ gatherRoom → length (t .gathered) ≤ gatherRoom
+
+module _ (g w : List ℕ) (short : length w ≤ 2) where
+  spent : (over flush : Bool) → length (pick over g [] ++ pick flush (pick over [] g ++ w) []) + length (pick flush [] (pick over [] g ++ w)) ≤ length g + 2
+  spent true true = simp length-append (omega arith)
+  spent true false = simp length-append (omega arith)
+  spent false true = simp length-append (omega arith)
+  spent false false = simp length-append (omega arith)
+
+  kept : (over flush : Bool) → ltb gatherRoom (length g + length w) ≡ over → length (pick flush [] (pick over [] g ++ w)) ≤ gatherRoom
+  kept true true e = lit≤ tt
+  kept true false e = omega arith
+  kept false true e = lit≤ tt
+  kept false false e = simp length-append (ltb-false gatherRoom (length g + length w) e)
+
+pub takes : (o : Orders) (g : List ℕ) (k : Key) → Takes g (takenUp o g k)
+unfolding takenUp
+takes o g k = record {
+  paper = either Two (isSkipped o k) (lit≤ tt) (key-paper k);
+  wire = spent g (keyWire k) (key-wire k) (overflows g k) (flushes o k);
+  room = λ h. kept g (keyWire k) (key-wire k) (overflows g k) (flushes o k) refl;
+}
+
+-- what is done with gathered bytes and waiting keys
+pub record Spends (gathered : List ℕ) (waiting : List Key) (e : Echoed) : Type 0 where
+  pub paper : length (e .paper) + 2 * length (e .echo .waiting) ≤ 2 * length waiting
+  pub wire : length (e .wire) + (length (e .echo .gathered) + 2 * length (e .echo .waiting)) ≤ length gathered + 2 * length waiting
+  pub room : length gathered ≤ gatherRoom → length (e .echo .gathered) ≤ gatherRoom
+
+module _ (o : Orders) (g : List ℕ) (k : Key) (ks : List Key) (t : Taken) (h : Takes g t) where
+  stops : Spends g (k ∷ ks) (stoppedAt o k ks t)
+  stops = record {
+    paper = omega (arith, h .paper);
+    wire = omega (arith, h .wire);
+    room = h .room;
+  }
+
+  goes-on : (e : Echoed) → Spends (t .gathered) ks e → Spends g (k ∷ ks) (behind o k t e)
+  goes-on e r = record {
+    paper = simp length-append (omega (arith, h .paper, r .paper));
+    wire = simp length-append (omega (arith, h .wire, r .wire));
+    room = λ l. r .room (h .room l);
+  }
+
+pub releases : (o : Orders) (g : List ℕ) (ks : List Key) → Spends g ks (released o g ks)
+unfolding released
+releases o g [] = record { paper = lit≤ tt; wire = omega arith; room = λ l. l }
+releases o g (k ∷ ks) =
+    let t = takenUp o g k in
+    either (Spends g (k ∷ ks)) (t .broke) (stops o g k ks t (takes o g k)) (goes-on o g k ks t (takes o g k) _ (releases o (t .gathered) ks))
+
+pub ends : (echoed : Bool) (e : Echo) → Spends (e .gathered) (e .waiting) (ended echoed e)
+unfolding ended
+ends echoed e =
+    let paper = joined-within (λ k. sentPaper echoed k) 2 (λ k. either Two echoed (lit≤ tt) (key-paper k)) (e .waiting) in
+    let wire = joined-within keyWire 2 key-wire (e .waiting) in
+    record { paper = omega arith; wire = simp length-append (omega arith); room = λ l. lit≤ tt }
+
+-- a key pressed: it waits, or it is taken up at once
+pub record Presses (e : Echo) (x : Echoed) : Type 0 where
+  pub paper : length (x .paper) ≤ 2
+  pub wire : length (x .wire) ≤ length (e .gathered) + 2
+  pub waits : isFull e ≡ false → length (e .waiting) ≤ waitRoom → length (x .echo .waiting) ≤ waitRoom
+  pub room : length (e .gathered) ≤ gatherRoom → length (x .echo .gathered) ≤ gatherRoom
+
+pub presses : (e : Echo) (k : Key) → Presses e (pressed e k)
+unfolding pressed isFull
+presses e k =
+    let t = takes (e .orders) (e .gathered) k in
+    chosen (Presses e) (e .held)
+    (λ h. record {
+      paper = lit≤ tt;
+      wire = omega arith;
+      waits = λ f l. simp length-append (omega (arith, leb-false waitRoom (length (e .waiting)) (rw h at f)));
+      room = λ l. l;
+    })
+    (λ h. record { paper = t .paper; wire = omega (arith, t .wire); waits = λ f l. l; room = t .room })

@@ -1,0 +1,266 @@
+-- A network byte: what it writes is paid for by gathered bytes, waiting keys and the bytes read, and the sizes are kept.
+use mathlib.Core.Path.{_≡_, refl}
+use mathlib.Core.Bool.{Bool, true, false, not}
+use mathlib.Core.List.{List, [], _∷_}
+use Prim.Native.Nat.{ℕ, suc, _+_, _*_, _≤_, _<_}
+use native.Mathlib.Omega.{arith}
+use borrow.Author.Tests.{eqb-true, not-false}
+use lib.Dec.{ltb, eqb, lit≤, lit<}
+use lib.ListN.{length, drop, length-append}
+use lib.Seq.{getD-drop}
+use Rattle.lists.specs.Choice.{pick}
+use Rattle.lists.proofs.Lengths.{chosen, either, every-set, every-replicate}
+use Rattle.codes.specs.Telnet.{IAC, RCTE, NAOCRD, BM, ACCEPT, REFUSE, DS, whoseOf, enables}
+use Rattle.codes.specs.declared.Note.{Note}
+use Rattle.codes.specs.declared.Note.the-variants.{Unreadable, Inactive, OtherOption, Stray}
+use Rattle.codes.specs.declared.Verb.{Verb}
+use Rattle.codes.specs.declared.Whose.{Whose}
+use Rattle.wire.specs.Frames.{coded, frame}
+use Rattle.lists.specs.Lists.{joined}
+use Rattle.negotiation.specs.declared.Reply.{Reply}
+use Rattle.negotiation.specs.declared.Reply.the-variants.{Silent, Positive, Negative}
+use Rattle.negotiation.specs.declared.Sides.{Sides}
+use Rattle.negotiation.specs.declared.Standing.{Standing}
+use Rattle.negotiation.specs.declared.Side.{Side}
+use Rattle.negotiation.specs.declared.Side.the-variants.{Echo, BulletinSga, Rcte, Macro, PrinterSga, Returns, Uncarried}
+use Rattle.negotiation.specs.Table.{isYes, stillOn, heard}
+use Rattle.negotiation.specs.Carried.{printerSide, standing, moved, free, isCarried, declined, replyBytes, heardBy}
+use Rattle.reader.specs.declared.Item.{Item}
+use Rattle.reader.specs.declared.Item.the-variants.{Nothing, Data, Negotiated, BodyEnd, StrayCommand}
+use Rattle.reader.specs.Reading.{Reader, bodyRoom, idle, read, byOption}
+use Rattle.bodies.specs.declared.RcteBody.{RcteBody}
+use Rattle.bodies.specs.declared.MacroBody.{MacroBody}
+use Rattle.bodies.specs.declared.MacroCommand.the-variants.{Define, Literal}
+use Rattle.bodies.specs.declared.ValueBody.{ValueBody}
+use Rattle.bodies.specs.RcteBodies.{rcteBody}
+use Rattle.bodies.specs.MacroBodies.{macroBody, defineRest}
+use Rattle.bodies.specs.ValueBodies.{valueBody}
+use Rattle.macros.specs.declared.Verdict.{Verdict}
+use Rattle.macros.specs.declared.Verdict.the-variants.{Accepted, Refused}
+use Rattle.macros.specs.Texts.{plain, Table, noMacros, entryOf, isItself, entryFor, defined, total, textRoom, judgedRest, judged, afterDefine}
+use Rattle.echo.specs.Taking.{gatherRoom}
+use Rattle.echo.specs.Control as control
+use Rattle.echo.specs.Control.{Echoed, waitRoom, started, holding, commanded, ordersNow, ended}
+use Rattle.disposition.specs.declared.Values.{Values}
+use Rattle.disposition.specs.Returns.{unspoken, withDs}
+use Rattle.printer.specs.State.{Printer, withSides, withReader, withTable, withEcho, withValues, rcteOn, echoOn, returnsOn, macrosOn, Did, sends, notes, printing, echoing}
+use Rattle.printer.specs.Network.{dataRead, rcteMoved, sideMoved, sideHeard, negotiationRead, rcteRead, verdictBytes, macroRead, valueRead, optionRead, bodyRead, itemRead, byteRead, bytesRead}
+use Rattle.printer.specs.Limits.{textLimit, textOf, InBytes, Limited}
+use Rattle.printer.proofs.LimitsEcho.{Spends, releases, ends}
+use Rattle.printer.proofs.LimitsReader.{credit, pays, reads}
+
+-- a text that a table may hold
+abbrev Short : List ℕ → Type 0
+Short t = (length t ≤ textLimit) × InBytes t
+
+abbrev AllShort : Table → Type 0
+AllShort t = (x : ℕ) → Short (textOf (entryOf t x))
+
+no-text : Short []
+no-text = (lit≤ tt, λ i. lit< tt)
+
+limited : {s : Printer} → length (s .echo .waiting) ≤ waitRoom → length (s .echo .gathered) ≤ gatherRoom
+    → length (s .reader .body) ≤ bodyRoom → InBytes (s .reader .body) → AllShort (s .table) → Limited s
+limited w g b i t = record {
+  sized = record { waiting = w; gathered = g; body = b; texts = λ x. t x .0 };
+  bytewise = record { body = i; texts = λ x. t x .1 };
+}
+
+-- a state with one of its parts changed
+module _ {s : Printer} (h : Limited s) where
+  texts-of : AllShort (s .table)
+  texts-of x = (h .sized .texts x, h .bytewise .texts x)
+
+  with-sides : (x : Sides) → Limited (withSides s x)
+  with-sides x = limited (h .sized .waiting) (h .sized .gathered) (h .sized .body) (h .bytewise .body) texts-of
+
+  pub with-values : (x : Values) → Limited (withValues s x)
+  with-values x = limited (h .sized .waiting) (h .sized .gathered) (h .sized .body) (h .bytewise .body) texts-of
+
+  pub with-echo : (x : control.Echo) → length (x .waiting) ≤ waitRoom → length (x .gathered) ≤ gatherRoom → Limited (withEcho s x)
+  with-echo x w g = limited w g (h .sized .body) (h .bytewise .body) texts-of
+
+  with-reader : (x : Reader) → length (x .body) ≤ bodyRoom → InBytes (x .body) → Limited (withReader s x)
+  with-reader x b i = limited (h .sized .waiting) (h .sized .gathered) b i texts-of
+
+  with-table : (x : Table) → AllShort x → Limited (withTable s x)
+  with-table x t = limited (h .sized .waiting) (h .sized .gathered) (h .sized .body) (h .bytewise .body) t
+
+-- the wire bytes that gathered bytes, waiting keys and the reader's credit may still give
+abbrev owed : control.Echo → Reader → ℕ
+owed e r = length (e .gathered) + 2 * length (e .waiting) + credit r
+
+-- a step from the control e and the reader r: it prints at most p bytes beyond those of the keys that it uses up, and sends
+-- at most n beyond what is owed no more; where H holds, the sizes hold behind it
+pub record Step (e : control.Echo) (r : Reader) (p n : ℕ) (H : Type 0) (d : Did) : Type 0 where
+  pub paper : length (d .paper) + 2 * length (d .state .echo .waiting) ≤ 2 * length (e .waiting) + p
+  pub wire : length (d .wire) + owed (d .state .echo) (d .state .reader) ≤ owed e r + n
+  pub kept : H → Limited (d .state)
+
+module _ {H : Type 0} (n : ℕ) (s : Printer) (h : H → Limited s) where
+  sending : (bytes : List ℕ) → length bytes ≤ n → Step (s .echo) (s .reader) 1 n H (sends bytes s)
+  sending bytes l = record { paper = omega arith; wire = omega arith; kept = h }
+
+  noting : (note : Note) → Step (s .echo) (s .reader) 1 n H (notes note s)
+  noting note = record { paper = omega arith; wire = omega arith; kept = h }
+
+  data-step : (b : ℕ) → Step (s .echo) (s .reader) 1 n H (dataRead s b)
+  unfolding dataRead
+  data-step b =
+      either (λ x. Step (s .echo) (s .reader) 1 n H (printing (b ∷ []) x)) (rcteOn s)
+      (record { paper = omega arith; wire = omega arith; kept = λ y. with-echo (h y) (holding (s .echo)) (h y .sized .waiting) (h y .sized .gathered) })
+      (record { paper = omega arith; wire = omega arith; kept = h })
+
+  echo-step : (bytes : List ℕ) (e : Echoed) → length bytes ≤ n → Spends (s .echo .gathered) (s .echo .waiting) e
+      → Step (s .echo) (s .reader) 1 n H (echoing bytes e s)
+  echo-step bytes e l p = record {
+    paper = omega (arith, p .paper);
+    wire = simp length-append (omega (arith, p .wire));
+    kept = λ y. with-echo (h y) (e .echo) (omega (arith, p .paper, h y .sized .waiting)) (p .room (h y .sized .gathered));
+  }
+
+  rcte-moved : (was is : Bool) (reply : List ℕ) → length reply ≤ n → Step (s .echo) (s .reader) 1 n H (rcteMoved was is reply s)
+  rcte-moved true true reply l = sending reply l
+  rcte-moved true false reply l = echo-step reply (ended (echoOn s) (s .echo)) l (ends (echoOn s) (s .echo))
+  rcte-moved false true reply l = record { paper = omega arith; wire = omega arith; kept = λ y. with-echo (h y) started (lit≤ tt) (lit≤ tt) }
+  rcte-moved false false reply l = sending reply l
+
+turns : (n : ℕ) (s : Printer) (x : Sides) (reply : List ℕ) → length reply ≤ n → Step (s .echo) (s .reader) 1 n (Limited s) (sends reply (withSides s x))
+turns n s x reply l = sending n (withSides s x) (λ h. with-sides h x) reply l
+
+-- a side's standing changes: RCTE may end, BM's table may be emptied
+pub moves : (n : ℕ) (s : Printer) (side : Side) (q : Standing) (reply : List ℕ) → length reply ≤ n → Step (s .echo) (s .reader) 1 n (Limited s) (sideMoved s side q reply)
+unfolding sideMoved
+moves n s Rcte q reply l =
+    let x = moved (s .sides) Rcte q in
+    rcte-moved n (withSides s x) (λ h. with-sides h x) (rcteOn s) (isYes q) reply l
+moves n s Macro q reply l =
+    let x = moved (s .sides) Macro q in
+    let t = pick (stillOn q) (s .table) noMacros in
+    let none : AllShort noMacros = every-replicate (λ e. Short (textOf e)) plain 256 plain no-text no-text in
+    sending n (withTable (withSides s x) t) (λ h. with-table (with-sides h x) t (either AllShort (stillOn q) (texts-of h) none)) reply l
+moves n s Returns q reply l =
+    let x = moved (s .sides) Returns q in
+    let v = pick (isYes q) (s .values) unspoken in
+    sending n (withValues (withSides s x) v) (λ h. with-values (with-sides h x) v) reply l
+moves n s Echo q reply l = turns n s (moved (s .sides) Echo q) reply l
+moves n s BulletinSga q reply l = turns n s (moved (s .sides) BulletinSga q) reply l
+moves n s PrinterSga q reply l = turns n s (moved (s .sides) PrinterSga q) reply l
+moves n s Uncarried q reply l = sending n s (λ h. h) reply l
+
+pub reply-long : (whose : Whose) (r : Reply) (option : ℕ) → length (replyBytes whose r option) ≤ 3
+reply-long whose Silent option = lit≤ tt
+reply-long whose Positive option = lit≤ tt
+reply-long whose Negative option = lit≤ tt
+
+negotiates : (s : Printer) (v : Verb) (option : ℕ) → Step (s .echo) (s .reader) 1 3 (Limited s) (negotiationRead s v option)
+unfolding negotiationRead sideHeard heardBy
+negotiates s v option =
+    let whose = whoseOf v in
+    let side = printerSide whose option in
+    let h = heard (enables v) (free (s .sides) side) (standing (s .sides) side) in
+    either (Step (s .echo) (s .reader) 1 3 (Limited s)) (isCarried side)
+    (moves 3 s side (h .next) (replyBytes whose (h .reply) option) (reply-long whose (h .reply) option))
+    (sending 3 s (λ y. y) (replyBytes whose (declined (enables v)) option) (reply-long whose (declined (enables v)) option))
+
+-- a DEFINE that is accepted has a text as long as its count says
+accepts : (t : Table) (x : ℕ) (rest : List ℕ) → InBytes rest → AllShort t → AllShort (afterDefine (judgedRest t x rest) t x (drop 1 rest))
+unfolding defined
+accepts t x [] i all = all
+accepts t x (count ∷ string) i all =
+    let Q : Verdict → Type 0 = λ v. AllShort (afterDefine v t x string) in
+    let long : eqb (length string) count ≡ true → Short string = λ e. (omega (arith, eqb-true (length string) count e, i 0), λ j. i (suc j)) in
+    chosen Q (not (eqb (length string) count)) (λ e. all)
+    (λ e. either Q (ltb textRoom (total (defined t x string))) all
+    (every-set (λ e. Short (textOf e)) plain t x (entryFor x string) (either (λ e. Short (textOf e)) (isItself x string) no-text (long (not-false _ e))) all))
+
+defines : (t : Table) (x : ℕ) (rest : List ℕ) → InBytes rest → AllShort t → AllShort (afterDefine (judged t x rest) t x (drop 1 rest))
+unfolding judged
+defines t x rest i all = either (λ v. AllShort (afterDefine v t x (drop 1 rest))) (eqb x 255) all (accepts t x rest i all)
+
+pub coded-long : (b : ℕ) → length (coded b) ≤ 2
+unfolding coded
+coded-long b = either (λ (l : List ℕ). length l ≤ 2) (eqb b IAC) (lit≤ tt) (lit≤ tt)
+
+coded-one : (b : ℕ) → eqb b IAC ≡ false → length (coded b) ≡ 1
+unfolding coded
+coded-one b e = rw e
+
+verdict-long : (v : Verdict) (x : ℕ) → length (verdictBytes v x) ≤ 10
+unfolding frame joined
+verdict-long Accepted x = simp length-append (omega (arith, coded-one BM refl, coded-one ACCEPT refl, coded-long x))
+verdict-long (Refused reason) x = simp length-append (omega (arith, coded-one BM refl, coded-one REFUSE refl, coded-long x, coded-long reason))
+
+-- the bodies, of a state s; a reply to one is at most ten bytes
+module _ {H : Type 0} (n : ℕ) (ten : 10 ≤ n) (s : Printer) (h : H → Limited s) where
+  rctes : (b : RcteBody) → Step (s .echo) (s .reader) 1 n H (rcteRead s b)
+  unfolding commanded
+  rctes RcteBody.Unreadable = noting n s h Unreadable
+  rctes (RcteBody.Readable c) =
+      let e = s .echo in
+      echo-step n s h [] (commanded e c) (omega arith) (releases (ordersNow c (e .orders)) (e .gathered) (e .waiting))
+
+  macros : (body : List ℕ) (b : MacroBody) → (H → InBytes body) → Step (s .echo) (s .reader) 1 n H (macroRead s body b)
+  macros body MacroBody.Unreadable i = noting n s h Unreadable
+  macros body (MacroBody.Readable (Define x)) i =
+      let rest = defineRest body in
+      let v = judged (s .table) x rest in
+      let t = afterDefine v (s .table) x (drop 1 rest) in
+      let bytes : H → InBytes rest = λ y j. rw (getD-drop 3 body j 0) (i y (3 + j)) in
+      sending n (withTable s t) (λ y. with-table (h y) t (defines (s .table) x rest (bytes y) (texts-of (h y)))) (verdictBytes v x) (omega (arith, verdict-long v x))
+  macros body (MacroBody.Readable (Literal x)) i = data-step n s h x
+
+  values : (b : ValueBody) → Step (s .echo) (s .reader) 1 n H (valueRead s b)
+  values ValueBody.Unreadable = noting n s h Unreadable
+  values (ValueBody.Readable v) = sending n (withValues s (withDs (s .values) v)) (λ y. with-values (h y) (withDs (s .values) v)) [] (omega arith)
+
+  options : (option : ℕ) (body : List ℕ) → (H → InBytes body) → Step (s .echo) (s .reader) 1 n H (optionRead s option body)
+  unfolding optionRead
+  options option body i =
+      let Q : Did → Type 0 = Step (s .echo) (s .reader) 1 n H in
+      let inactive : Q (notes Inactive s) = noting n s h Inactive in
+      either Q (eqb option RCTE) (either Q (rcteOn s) (rctes (rcteBody body)) inactive)
+      (either Q (eqb option NAOCRD) (either Q (returnsOn s) (values (valueBody DS body)) inactive)
+      (either Q (eqb option BM) (either Q (macrosOn s) (macros body (macroBody body) i) inactive)
+      (noting n s h OtherOption)))
+
+-- a body that is not empty has credit for its reply
+bodies : {H : Type 0} (s : Printer) → (H → Limited s) → (marred : Bool) (body : List ℕ) → (H → InBytes body)
+    → Step (s .echo) (s .reader) 1 (8 + 2 * length body) H (bodyRead s marred body)
+unfolding bodyRead byOption
+bodies s h true body i = noting (8 + 2 * length body) s h Unreadable
+bodies s h false [] i = noting 8 s h Unreadable
+bodies s h false (option ∷ rest) i = options (8 + 2 * suc (length rest)) (omega arith) s h option (option ∷ rest) i
+
+items : (s : Printer) (i : Item) → Step (s .echo) (s .reader) 1 (pays i (s .reader .body)) (Limited s) (itemRead s i)
+items s Nothing = sending 0 s (λ h. h) [] (lit≤ tt)
+items s (Data b) = data-step 0 s (λ h. h) b
+items s (Negotiated v option) = negotiates s v option
+items s BodyEnd =
+    let d = bodies {H = Limited s} (withReader s idle) (λ h. with-reader h idle (lit≤ tt) (λ i. lit< tt)) (s .reader .marred) (s .reader .body) (λ h. h .bytewise .body) in
+    record { paper = d .paper; wire = omega (arith, d .wire); kept = d .kept }
+items s StrayCommand = noting 0 s (λ h. h) Stray
+
+pub byte-step : (s : Printer) (b : ℕ) → Step (s .echo) (s .reader) 1 2 ((b < 256) × Limited s) (byteRead s b)
+unfolding byteRead
+byte-step s b =
+    let r = read (s .reader) b in
+    let c = reads (s .reader) b in
+    let d = items (withReader s (r .reader)) (r .item) in
+    record {
+      paper = d .paper;
+      wire = omega (arith, d .wire, c .paid);
+      kept = λ y. d .kept (with-reader (y .1) (r .reader) (c .room (y .1 .sized .body)) (c .bytes (y .0) (y .1 .bytewise .body)));
+    }
+
+pub bytes-step : (s : Printer) (bs : List ℕ) → Step (s .echo) (s .reader) (length bs) (2 * length bs) (InBytes bs × Limited s) (bytesRead s bs)
+unfolding bytesRead
+bytes-step s [] = record { paper = omega arith; wire = omega arith; kept = λ y. y .1 }
+bytes-step s (b ∷ bs) =
+    let d = byte-step s b in
+    let e = bytes-step (byteRead s b .state) bs in
+    record {
+      paper = simp length-append (omega (arith, d .paper, e .paper));
+      wire = simp length-append (omega (arith, d .wire, e .wire));
+      kept = λ y. e .kept (λ i. y .0 (suc i), d .kept (y .0 0, y .1));
+    }
