@@ -4,3 +4,4 @@ pub mod Parts
 pub mod Joined
 pub mod Appended
 pub mod Lengths
+pub mod Uniform

@@ -1,0 +1,7 @@
+pub mod Guards
+pub mod Sessions
+pub mod Steps
+pub mod Bytes
+pub mod Agreement
+pub mod Sent
+pub mod Defined

@@ -1,0 +1,1 @@
+// The claim that text sent is read back stands in specs/ and its proof in proofs/; no code.
