@@ -5,3 +5,4 @@ pub mod Bytes
 pub mod Starred
 pub mod Listing
 pub mod Rfc560
+pub mod Replaced

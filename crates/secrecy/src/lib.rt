@@ -1,0 +1,1 @@
+// What two sessions that differ in typed characters have in common. There is no code here.
