@@ -5,3 +5,5 @@ pub mod Joined
 pub mod Appended
 pub mod Lengths
 pub mod Uniform
+pub mod Sums
+pub mod Zeros

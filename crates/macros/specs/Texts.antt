@@ -45,11 +45,13 @@ entryFor x s = pick (isItself x s) plain (text s)
 unfoldable pub defined : Table → ℕ → List ℕ → Table
 defined t x s = set t x (entryFor x s)
 
+-- with a string of the right length
+abbrev pub judgedTotal : Table → ℕ → List ℕ → Verdict
+judgedTotal t x s = pick (ltb textRoom (total (defined t x s))) (Refused 2) Accepted
+
 -- with a count and a string behind X
 abbrev pub judgedText : Table → ℕ → ℕ → List ℕ → Verdict
-judgedText t x count s =
-    pick (not (eqb (length s) count)) (Refused 3)
-    (pick (ltb textRoom (total (defined t x s))) (Refused 2) Accepted)
+judgedText t x count s = pick (not (eqb (length s) count)) (Refused 3) (judgedTotal t x s)
 
 abbrev pub judgedRest : Table → ℕ → List ℕ → Verdict
 judgedRest t x [] = Refused 0
