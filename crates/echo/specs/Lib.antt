@@ -1,2 +1,4 @@
 pub mod Control
 pub mod Taking
+pub mod View
+pub mod Steps

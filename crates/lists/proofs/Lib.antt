@@ -7,3 +7,6 @@ pub mod Lengths
 pub mod Uniform
 pub mod Sums
 pub mod Zeros
+pub mod Filling
+pub mod Grown
+pub mod Moving

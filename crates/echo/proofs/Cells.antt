@@ -1,0 +1,76 @@
+-- The arrays of the state: how many keys wait, which are left, and that the cells behind them are 0.
+use mathlib.Core.Path.{_≡_, refl, sym}
+use mathlib.Core.Bool.{Bool, true, false}
+use mathlib.Core.List.{List, [], _∷_, _++_, map, map-append}
+use Prim.Native.Nat.{ℕ, suc, _+_, _-_, _≤_, _<_, min}
+use native.Mathlib.Numerals.{add-one}
+use native.Mathlib.Omega.{arith}
+use lib.ListN.{length, take, drop, set, getD, replicate, length-map, length-take, length-drop}
+use lib.Seq.{take-at, drop-cons, getD-take}
+use lib.Dec.{leb}
+use borrow.Author.Tests.{le-leb, lt-leb, leb-true, leb-false}
+use Rattle.lists.specs.Buffers.{Clean}
+use Rattle.lists.proofs.Moving.{map-drop}
+use Rattle.lists.proofs.Appended.{appended, clean-appended}
+use Rattle.lists.proofs.Zeros.{clean-append}
+use Rattle.keys.specs.declared.Key.{Key}
+use Rattle.keys.specs.Packing.{unpacked}
+use Rattle.echo.specs.declared.Echo.{Echo}
+use Rattle.echo.specs.View.{keysIn, waitingIn}
+
+-- the next of the waiting keys
+pub next-key : (cells : List ℕ) (n i : ℕ) → i < n → n ≤ length cells
+    → drop i (map unpacked (take n cells)) ≡ unpacked (getD cells i 0) ∷ drop (i + 1) (map unpacked (take n cells))
+next-key cells n i h l =
+    let inside : i < length (take n cells) = simp length-take (omega arith) in
+    rw (← map-drop unpacked i (take n cells), drop-cons (take n cells) i 0 inside, getD-take n cells i 0 h, map-drop unpacked (suc i) (take n cells), add-one i)
+
+-- the keys of a count within the array
+pub keys-of : (e : Echo) (n : ℕ) → n ≡ min (e .count) 256 → map unpacked (take n (e .waiting)) ≡ waitingIn e
+keys-of e n h = rw h
+
+module _ (cells : List ℕ) (n : ℕ) (l : length cells ≡ 256) where
+  pub count-of : length (keysIn cells n) ≡ min n 256
+  count-of = simp (length-map, length-take) (omega arith)
+
+  pub full : leb 256 n ≡ leb 256 (length (keysIn cells n))
+  full = go (leb 256 n) refl
+    where
+      go : (b : Bool) → leb 256 n ≡ b → b ≡ leb 256 (length (keysIn cells n))
+      go true e = sym (le-leb 256 (length (keysIn cells n)) (omega (arith, count-of, leb-true 256 n e)))
+      go false e = sym (lt-leb 256 (length (keysIn cells n)) (omega (arith, count-of, leb-false 256 n e)))
+
+  -- the keys left behind the first ones
+  pub left-keys : (at : ℕ) → at ≤ min n 256
+      → keysIn (drop at (take (min n 256) cells) ++ replicate (256 - (min n 256 - at)) 0) (min n 256 - at) ≡ drop at (keysIn cells n)
+  left-keys at h =
+      let e : min (min n 256 - at) 256 ≡ min n 256 - at = omega arith in
+      let long : length (drop at (take (min n 256) cells)) ≡ min n 256 - at = simp (length-drop, length-take) (omega arith) in
+      rw (e, take-at (drop at (take (min n 256) cells)) (replicate (256 - (min n 256 - at)) 0) (min n 256 - at) long)
+      (map-drop unpacked at (take (min n 256) cells))
+
+  pub left-clean : (at : ℕ) → at ≤ min n 256
+      → Clean (drop at (take (min n 256) cells) ++ replicate (256 - (min n 256 - at)) 0) (min n 256 - at)
+  left-clean at h =
+      clean-append (drop at (take (min n 256) cells)) (min n 256 - at) (256 - (min n 256 - at)) (simp (length-drop, length-take) (omega arith))
+
+  -- a key put behind those that wait
+  pub queued-keys : (p : ℕ) (k : Key) → min n 256 < 256 → unpacked p ≡ k → keysIn (set cells (min n 256) p) (min n 256 + 1) ≡ keysIn cells n ++ k ∷ []
+  queued-keys p k free e =
+      let inside : min n 256 < length cells = omega arith in
+      rw (appended cells (min n 256) p inside 256 l, map-append unpacked (take (min n 256) cells) (p ∷ []), e)
+
+  pub queued-clean : (p : ℕ) → min n 256 < 256 → Clean cells n → Clean (set cells (min n 256) p) (min n 256 + 1)
+  queued-clean p free clean =
+      let e : min n 256 ≡ n = omega (arith, clean .within) in
+      let inside : n < length cells = omega arith in
+      rw e (clean-appended cells n p inside clean)
+
+-- the gathered bytes
+module _ (cells : List ℕ) (filled : ℕ) (l : length cells ≡ 512) where
+  pub gathered-long : length (take (min filled 512) cells) ≡ min filled 512
+  gathered-long = simp length-take (omega arith)
+
+  -- a count within the array is the count of cells in use
+  pub clean-within : Clean cells filled → min filled 512 ≡ filled
+  clean-within clean = omega (arith, clean .within)

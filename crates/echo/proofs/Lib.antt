@@ -1,0 +1,6 @@
+pub mod Cells
+pub mod Classes
+pub mod Widths
+pub mod Gathering
+pub mod Pressing
+pub mod Releasing
