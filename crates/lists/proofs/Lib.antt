@@ -10,3 +10,4 @@ pub mod Zeros
 pub mod Filling
 pub mod Grown
 pub mod Moving
+pub mod Behind

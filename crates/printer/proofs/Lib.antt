@@ -2,3 +2,11 @@ pub mod LimitsEcho
 pub mod LimitsReader
 pub mod LimitsNetwork
 pub mod Limits
+pub mod Steps
+pub mod Meeting
+pub mod Views
+pub mod Answering
+pub mod Replying
+pub mod Bodies
+pub mod Choosing
+pub mod Texts

@@ -29,7 +29,8 @@ use Rattle.printer.specs.State.{Printer, fresh, rcteOn, echoOn, returnsO
 use Rattle.printer.specs.Network.{sideMoved, byteRead, bytesRead, entryRead, networkRead}
 use Rattle.printer.specs.Calls.{networkCall, badKey, keyTyped, keyCall, askCall, suggestCall}
 use Rattle.printer.specs.Session.{Call, network, key, ask, suggest, called, answersFrom}
-use Rattle.printer.specs.Limits.{textLimit, textOf, Sized, InBytes, Limited, Fits, NetworkFits, KeyFits, MoveFits, SuggestionFits, CallFits, FreshLimited, NetworkKeeps, KeyKeeps, MoveKeeps, OfBytes, CallKeeps, Within, SessionWithin}
+use Rattle.printer.specs.Limits.{textLimit, Sized, InBytes, Limited, Fits, NetworkFits, KeyFits, MoveFits, SuggestionFits, CallFits, FreshLimited, NetworkKeeps, KeyKeeps, MoveKeeps, OfBytes, CallKeeps, Within, SessionWithin}
+use Rattle.macros.specs.Packed.{textOf}
 use Rattle.printer.proofs.LimitsEcho.{key-paper, key-wire, presses}
 use Rattle.printer.proofs.LimitsReader.{credit, no-credit, credit-within}
 use Rattle.printer.proofs.LimitsNetwork.{with-values, with-echo, Step, moves, reply-long, coded-long, byte-step, bytes-step}

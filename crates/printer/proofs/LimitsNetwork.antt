@@ -45,7 +45,8 @@ use Rattle.disposition.specs.declared.Values.{Values}
 use Rattle.disposition.specs.Returns.{unspoken, withDs}
 use Rattle.printer.specs.State.{Printer, withSides, withReader, withTable, withEcho, withValues, rcteOn, echoOn, returnsOn, macrosOn, Did, sends, notes, printing, echoing}
 use Rattle.printer.specs.Network.{dataRead, rcteMoved, sideMoved, sideHeard, negotiationRead, rcteRead, verdictBytes, macroRead, valueRead, optionRead, bodyRead, itemRead, byteRead, bytesRead}
-use Rattle.printer.specs.Limits.{textLimit, textOf, InBytes, Limited}
+use Rattle.printer.specs.Limits.{textLimit, InBytes, Limited}
+use Rattle.macros.specs.Packed.{textOf}
 use Rattle.printer.proofs.LimitsEcho.{Spends, releases, ends}
 use Rattle.printer.proofs.LimitsReader.{credit, pays, reads}
 

@@ -11,7 +11,8 @@ use Rattle.wire.specs.Frames.{frame}
 use Rattle.negotiation.specs.declared.Standing.{Standing}
 use Rattle.negotiation.specs.declared.Side.{Side}
 use Rattle.reader.specs.Reading.{bodyRoom}
-use Rattle.macros.specs.Texts.{Entry, plain, text, entryOf}
+use Rattle.macros.specs.Texts.{entryOf}
+use Rattle.macros.specs.Packed.{textOf}
 use Rattle.echo.specs.Taking.{gatherRoom}
 use Rattle.echo.specs.Control.{waitRoom, isFull}
 use Rattle.printer.specs.State.{Printer, fresh, rcteOn, Did, Answer}
@@ -22,11 +23,6 @@ use Rattle.printer.specs.Session.{Call, network, key, ask, suggest, call
 -- a DEFINE's count is one byte
 abbrev pub textLimit : ℕ
 textLimit = 255
-
--- what a byte stands for, nothing if for itself
-abbrev pub textOf : Entry → List ℕ
-textOf plain = []
-textOf (text t) = t
 
 -- the sizes of a state, reached or not
 pub record Sized (s : Printer) : Type 0 where

@@ -1,5 +1,6 @@
 // Reading the wire: bytes to items. The reader knows no macro and no option.
 ghost use mathlib.Core.Path.{_≡_};
+ghost use Prim.Native.Nat.{min};
 ghost use Rattle.reader.specs.Reading.{inPhase, gives, keeping, marring, commandRead, bodyCommandRead, readIn, read, isBetween};
 ghost use Rattle.reader.specs.Kept.{viewReader, MetIdle, MetRead};
 use codes::Verb;
@@ -192,4 +193,11 @@ pub fn read_byte(r: Reader, b: u8) -> Read
         Phase::InBody => body_byte(r, b),
         Phase::InBodyAfterIac => body_command_byte(r, b),
     }
+}
+
+// How many bytes of a body are kept.
+pub fn body_len(len: usize) -> usize
+    ensures { λ r. ⌜ r ≡ min len 260 ⌝ }
+{
+    if len < 260 { len } else { 260 }
 }

@@ -1,3 +1,5 @@
 pub mod Fields
 pub mod Lines
+pub mod Parts
 pub mod Running
+pub mod Whole

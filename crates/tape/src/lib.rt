@@ -1,4 +1,6 @@
-// The tape: tagged fields, and what stands at a place of it.
+// The tape: tagged fields, and the lines that a run of one prints.
+pub mod fields;
+pub mod lines;
 
 pub struct Cursor {
     pub at: usize,

@@ -23,11 +23,11 @@ same-bytes (a ∷ as′) [] e = absurd (false≢true e)
 same-bytes (a ∷ as′) (b ∷ bs) e =
     rw (eqb-true a b (both-left (eqb a b) (sameBytes as′ bs) e), same-bytes as′ bs (both-right (eqb a b) (sameBytes as′ bs) e))
 
-allSame : List Example → Bool
+unfoldable pub allSame : List Example → Bool
 allSame [] = true
 allSame (x ∷ xs) = sameBytes (x .gives) (x .says) && allSame xs
 
-all-hold : (xs : List Example) → allSame xs ≡ true → map (λ x. x .gives) xs ≡ map (λ x. x .says) xs
+pub all-hold : (xs : List Example) → allSame xs ≡ true → map (λ x. x .gives) xs ≡ map (λ x. x .says) xs
 unfolding allSame
 all-hold [] e = refl
 all-hold (x ∷ xs) e =

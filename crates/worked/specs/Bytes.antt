@@ -1,11 +1,13 @@
 -- Short ways to write sessions of network bytes and keys, and what they give in all.
 use mathlib.Core.List.{List, [], _∷_, _++_, map}
 use Prim.Native.Nat.{ℕ}
+use lib.ListN.{length, drop}
 use Rattle.lists.specs.Lists.{joined}
-use Rattle.codes.specs.Answers.{noteNumber}
+use Rattle.codes.specs.Answers.{codeNumber, noteNumber}
 use Rattle.keys.specs.declared.Key.{Key}
 use Rattle.keys.specs.declared.Key.the-variants.{Char, Line, Command}
 use Rattle.printer.specs.State as P
+use Rattle.printer.specs.Calls.{waitingCount}
 use Rattle.printer.specs.Session as PS
 use Rattle.bulletin.specs.State as B
 use Rattle.bulletin.specs.Session as BS
@@ -35,3 +37,37 @@ notesOf cs = map (λ a. noteNumber (a .did .note)) (PS.session cs)
 
 abbrev pub bulletinWireOf : List BS.Call → List ℕ
 bulletinWireOf cs = joined (λ a. a .did .wire) (BS.session cs)
+
+-- the answers to calls that stand behind others in a session, and what they give
+abbrev pub behind : List PS.Call → List PS.Call → List P.Answer
+behind before calls = drop (length before) (PS.session (before ++ calls))
+
+abbrev pub paperBehind : List PS.Call → List PS.Call → List ℕ
+paperBehind before calls = joined (λ a. a .did .paper) (behind before calls)
+
+abbrev pub wireBehind : List PS.Call → List PS.Call → List ℕ
+wireBehind before calls = joined (λ a. a .did .wire) (behind before calls)
+
+abbrev pub codesBehind : List PS.Call → List PS.Call → List ℕ
+codesBehind before calls = map (λ a. codeNumber (a .code)) (behind before calls)
+
+abbrev pub notesBehind : List PS.Call → List PS.Call → List ℕ
+notesBehind before calls = map (λ a. noteNumber (a .did .note)) (behind before calls)
+
+abbrev pub waitingBehind : List PS.Call → List PS.Call → List ℕ
+waitingBehind before calls = map (λ a. waitingCount (a .did .state)) (behind before calls)
+
+abbrev pub bulletinBehind : List BS.Call → List BS.Call → List B.Answer
+bulletinBehind before calls = drop (length before) (BS.session (before ++ calls))
+
+abbrev pub sentBehind : List BS.Call → List BS.Call → List ℕ
+sentBehind before calls = joined (λ a. a .did .wire) (bulletinBehind before calls)
+
+abbrev pub hostBehind : List BS.Call → List BS.Call → List ℕ
+hostBehind before calls = joined (λ a. a .did .host) (bulletinBehind before calls)
+
+abbrev pub sentCodesBehind : List BS.Call → List BS.Call → List ℕ
+sentCodesBehind before calls = map (λ a. codeNumber (a .code)) (bulletinBehind before calls)
+
+abbrev pub sentNotesBehind : List BS.Call → List BS.Call → List ℕ
+sentNotesBehind before calls = map (λ a. noteNumber (a .did .note)) (bulletinBehind before calls)

@@ -1,0 +1,48 @@
+-- A body's end, a readable body, and a byte, as the rules' next steps.
+use mathlib.Core.Path.{_≡_, refl, sym, ap, _∙_}
+use mathlib.Core.Bool.{Bool, true, false}
+use mathlib.Core.List.{List, [], _∷_}
+use Prim.Native.Nat.{ℕ, _≤_, _-_}
+use native.Mathlib.Omega.{arith}
+use lib.ListN.{length, take, drop, getD, length-drop}
+use lib.Seq.{take-all}
+use lib.Dec.{ltb}
+use borrow.Author.Tests.{ltb-false, le-ltb}
+use Rattle.lists.specs.Choice.{pick}
+use Rattle.bodies.specs.declared.MacroBody.{MacroBody}
+use Rattle.bodies.specs.declared.MacroCommand.{MacroCommand}
+use Rattle.bodies.specs.MacroBodies.{macroBody}
+use Rattle.reader.specs.declared.Item.{Item}
+use Rattle.reader.specs.declared.Item.the-variants.{BodyEnd}
+use Rattle.reader.specs.Reading.{Reader, idle, read, byOption}
+use Rattle.printer.specs.State.{Printer, Did, withReader}
+use Rattle.printer.specs.Network.{itemRead, byteRead, bodyRead}
+
+-- a body that is neither marred nor empty goes by its option
+pub by-first : {D : Type 0} (body : List ℕ) (u : D) (h : ℕ → D) → 1 ≤ length body → byOption false body u h ≡ h (getD body 0 0)
+unfolding byOption
+by-first [] u h le = absurd (omega arith)
+by-first (o ∷ rest) u h le = refl
+
+-- the reader is empty as a body is handled
+pub body-end : (s : Printer) (r : Reader) → r ≡ idle → itemRead s BodyEnd ≡ bodyRead (withReader s r) (s .reader .marred) (s .reader .body)
+body-end s r e = ap (λ (x : Reader). bodyRead (withReader s x) (s .reader .marred) (s .reader .body)) (sym e)
+
+-- a readable body of BM has its macro byte
+pub readable-long : (body : List ℕ) (c : MacroCommand) → macroBody body ≡ MacroBody.Readable c → 3 ≤ length body
+unfolding macroBody
+readable-long body c e = go (ltb (length body) 3) refl _ e
+  where
+    go : (t : Bool) → ltb (length body) 3 ≡ t → (rest : MacroBody) → pick t MacroBody.Unreadable rest ≡ MacroBody.Readable c → 3 ≤ length body
+    go true t rest e = let z : _≡_ {A = ℕ} 0 1 = cc in absurd (omega arith)
+    go false t rest e = ltb-false (length body) 3 t
+
+-- the rest of a slice from a place on
+pub rest-all : (l : List ℕ) (n : ℕ) → take (length l - n) (drop n l) ≡ drop n l
+rest-all l n = take-all (length l - n) (drop n l) (simp length-drop (omega arith))
+
+-- a byte is the item that it completes, in the state that has the reader as it left it
+pub byte-item : (s : Printer) (b : ℕ) (item : Item) (r : Reader) → item ≡ read (s .reader) b .item → r ≡ read (s .reader) b .reader
+    → byteRead s b ≡ itemRead (withReader s r) item
+unfolding byteRead
+byte-item s b item r i e = ap (λ (x : Reader). itemRead (withReader s x) (read (s .reader) b .item)) (sym e) ∙ ap (λ (x : Item). itemRead (withReader s r) x) (sym i)

@@ -1,0 +1,41 @@
+-- How a step of the code meets the rule's, put together.
+use mathlib.Core.Path.{_≡_, refl, sym, _∙_}
+use mathlib.Core.List.{List, [], _++_}
+use Prim.Native.Nat.{ℕ}
+use Rattle.lists.specs.Buffers.{Wrote}
+use Rattle.lists.proofs.Starts.{wrote-none}
+use Rattle.codes.specs.declared.Note.{Note}
+use Rattle.printer.specs.declared.Printer as code-printer
+use Rattle.printer.specs.declared.Step.{Step}
+use Rattle.printer.specs.State.{Printer, Did, notes}
+use Rattle.codes.specs.declared.Note.the-variants.{Clear}
+use Rattle.printer.specs.Kept.{viewPrinter, CleanPrinter, WroteTo, MetStep, MetQuiet, MetQuietly}
+use Rattle.printer.specs.State.{nothing}
+
+abbrev pub quietStep : Note → code-printer.Printer → Step
+quietStep n p = record { note = n; paper = 0; wire = 0; state = p }
+
+-- a step that writes nothing, of a rule that does not either
+pub met-quietly : (n : Note) (p t : code-printer.Printer) (s : Printer) → viewPrinter t ≡ s → (CleanPrinter p → CleanPrinter t)
+    → MetQuietly (notes n s) p (quietStep n t)
+met-quietly n p t s v k = record {
+  met = λ held lay. record {
+    note = refl;
+    wrote = record { paper = wrote-none held; wire = wrote-none lay };
+    view = v;
+    clean = k;
+  };
+}
+
+-- a step that only changes the state
+pub met-still : (p t : code-printer.Printer) (s : Printer) → MetQuiet (nothing s) p t → (held lay : List ℕ) → MetStep (nothing s) p held held lay lay (quietStep Clear t)
+met-still p t s m held lay = record {
+  note = refl;
+  wrote = record { paper = wrote-none held; wire = wrote-none lay };
+  view = m .view;
+  clean = m .clean;
+}
+
+-- a step after which nothing but the negotiation of a side differs keeps all cells
+pub clean-sides : {p t : code-printer.Printer} → t .reader ≡ p .reader → t .table ≡ p .table → t .echo ≡ p .echo → CleanPrinter p → CleanPrinter t
+clean-sides a b c k = record { reader = rw a (k .reader); table = rw b (k .table); echo = rw c (k .echo) }

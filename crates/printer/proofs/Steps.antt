@@ -1,0 +1,86 @@
+-- Steps put one behind the other.
+use mathlib.Core.Path.{_≡_, refl, sym, ap, _∙_}
+use mathlib.Core.Bool.{Bool, true, false}
+use mathlib.Core.List.{List, [], _∷_, _++_, append-assoc, append-nil}
+use Prim.Native.Nat.{ℕ, suc, _+_, _<_}
+use native.Mathlib.Numerals.{add-one}
+use lib.ListN.{length, take, drop, getD}
+use lib.Seq.{drop-cons}
+use Rattle.codes.specs.Answers.{firstNote}
+use Rattle.codes.specs.declared.Note.{Note}
+use Rattle.codes.specs.declared.Note.the-variants.{Clear, Unreadable, Inactive, OtherOption, Stray}
+use Rattle.negotiation.specs.declared.Side.{Side}
+use Rattle.negotiation.specs.declared.Side.the-variants.{Echo, BulletinSga, Rcte, Macro, PrinterSga, Returns, Uncarried}
+use Rattle.negotiation.specs.declared.Standing.{Standing}
+use Rattle.negotiation.specs.Table.{isYes}
+use Rattle.negotiation.specs.declared.Sides.{Sides}
+use Rattle.negotiation.specs.Carried.{moved}
+use Rattle.printer.specs.State.{Printer, Did, sends, nothing, followed, rcteOn, withSides}
+use Rattle.printer.specs.Network.{rcteMoved, sideMoved, byteRead, bytesRead}
+
+-- bytes that go out before a step's own
+abbrev pub behind : List ℕ → Did → Did
+behind bytes d = record { note = d .note; paper = d .paper; wire = bytes ++ d .wire; taken = d .taken; state = d .state }
+
+sent-alone : (reply : List ℕ) (s : Printer) → sends reply s ≡ behind reply (nothing s)
+sent-alone reply s = rw (append-nil reply)
+
+rcte-behind : (was on : Bool) (reply : List ℕ) (s : Printer) → rcteMoved was on reply s ≡ behind reply (rcteMoved was on [] s)
+rcte-behind true true reply s = sent-alone reply s
+rcte-behind true false reply s = refl
+rcte-behind false true reply s = rw (append-nil reply)
+rcte-behind false false reply s = sent-alone reply s
+
+-- a side moves the same way behind every reply
+pub moved-behind : (s : Printer) (side : Side) (q : Standing) (reply : List ℕ) → sideMoved s side q reply ≡ behind reply (sideMoved s side q [])
+unfolding sideMoved
+moved-behind s Rcte q reply = rcte-behind (rcteOn s) (isYes q) reply _
+moved-behind s Macro q reply = sent-alone reply _
+moved-behind s Returns q reply = sent-alone reply _
+moved-behind s Echo q reply = sent-alone reply _
+moved-behind s BulletinSga q reply = sent-alone reply _
+moved-behind s PrinterSga q reply = sent-alone reply _
+moved-behind s Uncarried q reply = sent-alone reply s
+
+first-assoc : (a b c : Note) → firstNote (firstNote a b) c ≡ firstNote a (firstNote b c)
+first-assoc Clear b c = refl
+first-assoc Unreadable b c = refl
+first-assoc Inactive b c = refl
+first-assoc OtherOption b c = refl
+first-assoc Stray b c = refl
+
+pub followed-assoc : (a b c : Did) → followed (followed a b) c ≡ followed a (followed b c)
+followed-assoc a b c =
+    rw (first-assoc (a .note) (b .note) (c .note), append-assoc (a .paper) (b .paper) (c .paper), append-assoc (a .wire) (b .wire) (c .wire), append-assoc (a .taken) (b .taken) (c .taken))
+
+-- the text read so far, and then its next byte
+pub text-next : (acc : Did) (text : List ℕ) (i : ℕ) → i < length text
+    → followed acc (bytesRead (acc .state) (drop i text))
+    ≡ followed (followed acc (byteRead (acc .state) (getD text i 0))) (bytesRead (byteRead (acc .state) (getD text i 0) .state) (drop (i + 1) text))
+unfolding bytesRead
+text-next acc text i lt =
+    rw (drop-cons text i 0 lt, add-one i)
+    (sym (followed-assoc acc (byteRead (acc .state) (getD text i 0)) (bytesRead (byteRead (acc .state) (getD text i 0) .state) (drop (suc i) text))))
+
+-- before the first byte
+pub text-begun : (s : Printer) (text : List ℕ) → followed (nothing s) (bytesRead s text) ≡ bytesRead s text
+text-begun s text = refl
+
+first-clear : (n : Note) → firstNote n Clear ≡ n
+first-clear Clear = refl
+first-clear Unreadable = refl
+first-clear Inactive = refl
+first-clear OtherOption = refl
+first-clear Stray = refl
+
+-- behind the last
+pub text-done : (acc : Did) → followed acc (bytesRead (acc .state) []) ≡ acc
+unfolding bytesRead
+text-done acc = rw (first-clear (acc .note), append-nil (acc .paper), append-nil (acc .wire), append-nil (acc .taken))
+
+-- RCTE leaves YES
+pub rcte-ends : (s : Printer) (q : Standing) (x : Sides) → rcteOn s ≡ true → isYes q ≡ false → x ≡ moved (s .sides) Rcte q
+    → sideMoved s Rcte q [] ≡ rcteMoved true false [] (withSides s x)
+unfolding sideMoved
+rcte-ends s q x was on e =
+    rw (was, on) (ap (λ (y : Sides). rcteMoved true false [] (withSides s y)) (sym e))

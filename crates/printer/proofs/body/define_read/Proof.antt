@@ -1,0 +1,37 @@
+use Rattle.lists.proofs.Starts.{wrote-none}
+use mathlib.Core.Path.{_≡_, refl, sym, _∙_}
+use borrow.Author.Needs.{needs}
+use Rattle.printer.proofs.body.define_read.Statement.{statement}
+use Rattle.printer.proofs.body.define_read.Tie as tie
+use Rattle.printer.proofs.body.define_read.Reads as reads
+use Rattle.printer.proofs.body.define_read.Lts as lts
+use Rattle.macros.proofs.define.Reads as define-reads
+use Rattle.printer.proofs.body.put_verdict.Reads as put-verdict-reads
+
+-- src/body.rt:66:9
+define-requires : tie.Need-define-requires
+define-requires c κs = search needs
+
+-- src/body.rt:69:9
+put-verdict-requires : tie.Need-put-verdict-requires
+put-verdict-requires c κs = rw (← c .before .before .define .ensures .verdict) at (c .before .before .before .before .before .before .pre)
+
+-- src/body.rt:61:1
+same-length : tie.Need-same-length
+same-length c = search needs
+
+-- src/body.rt:61:1
+returns : tie.Need-returns
+returns c =
+    let d = c .before .before .before .before .before .define .ensures in
+    record {
+      met = λ held. record {
+        note = refl;
+        wrote = record { paper = wrote-none held; wire = rw (d .verdict) at (c .before .before .put-verdict .ensures) };
+        view = rw (d .table);
+        clean = λ k. record { reader = k .reader; table = d .clean (k .table); echo = k .echo };
+      };
+    }
+
+pub define-read-spec : {M : Type 1} → statement M
+define-read-spec = tie.close (tie.spec define-requires put-verdict-requires same-length returns)

@@ -1,0 +1,68 @@
+use Rattle.printer.proofs.Meeting.{met-quietly}
+use mathlib.Core.Path.{_≡_, refl, sym, _∙_}
+use borrow.Author.Needs.{needs}
+use Rattle.printer.proofs.body.rcte_read.Statement.{statement}
+use Rattle.printer.proofs.body.rcte_read.Tie as tie
+use Rattle.printer.proofs.body.rcte_read.Reads as reads
+use Rattle.printer.proofs.body.rcte_read.Lts as lts
+use Rattle.bodies.proofs.rcte_body.Reads as rcte-body-reads
+use Rattle.echo.proofs.commanded.Reads as commanded-reads
+use Rattle.printer.proofs.moves.quiet.Reads as quiet-reads
+
+-- src/body.rt:32:39
+rcte-body-requires : tie.Need-rcte-body-requires
+rcte-body-requires c κs = search needs
+
+-- src/body.rt:32:28
+enum-known-command : tie.Need-enum-known-command
+enum-known-command c = search needs
+
+-- src/body.rt:33:32
+enum-told : tie.Need-enum-told
+enum-told c = search needs
+
+-- src/body.rt:33:9
+quiet-requires : tie.Need-quiet-requires
+quiet-requires c κs = search needs
+
+-- src/body.rt:33:9
+returns : tie.Need-returns
+returns c = rw (sym (c .before .before .before .rcte-body .ensures) ∙ c .before .enum-told .given .1, c .quiet .ensures) (met-quietly _ _ _ _ refl (λ k. k) .met _ _)
+
+-- src/body.rt:36:9
+commanded-requires : tie.Need-commanded-requires
+commanded-requires c κs = rw (sym (c .before .before .before .before .before .before .rcte-body .ensures) ∙ c .before .before .before .before .command .given .1) at (c .before .before .before .before .before .before .before .before .before .before .pre)
+
+-- src/body.rt:27:1
+same-length : tie.Need-same-length
+same-length c = search needs
+
+-- src/body.rt:27:1
+same-length-2 : tie.Need-same-length-2
+same-length-2 c = search needs
+
+-- src/body.rt:27:1
+returns-2 : tie.Need-returns-2
+returns-2 c =
+    let e = c .before .before .before .before .before .commanded .ensures in
+    rw (sym (c .before .before .before .before .before .before .before .before .before .before .before .before .rcte-body .ensures) ∙ c .before .before .before .before .before .before .before .before .before .before .command .given .1)
+    (record {
+      note = refl;
+      wrote = record { paper = e .paper; wire = e .wire };
+      view = rw (e .echo);
+      clean = λ k. record { reader = k .reader; table = k .table; echo = e .clean (k .echo) };
+    })
+
+pub rcte-read-spec : {M : Type 1} → statement M
+rcte-read-spec =
+    tie.close
+    (tie.spec
+    rcte-body-requires
+    enum-known-command
+    enum-told
+    quiet-requires
+    returns
+    commanded-requires
+    same-length
+    same-length-2
+    returns-2)

@@ -1,0 +1,22 @@
+use borrow.Author.Needs.{needs}
+use Rattle.printer.proofs.moves.plainly_moved.Statement.{statement}
+use Rattle.printer.proofs.moves.plainly_moved.Tie as tie
+use Rattle.printer.proofs.moves.plainly_moved.Reads as reads
+use Rattle.printer.proofs.moves.plainly_moved.Lts as lts
+use Rattle.negotiation.proofs.moved.Reads as moved-reads
+use Rattle.printer.proofs.moves.quiet.Reads as quiet-reads
+
+-- src/moves.rt:71:9
+moved-requires : tie.Need-moved-requires
+moved-requires c κs = search needs
+
+-- src/moves.rt:74:5
+quiet-requires : tie.Need-quiet-requires
+quiet-requires c κs = search needs
+
+-- src/moves.rt:67:1
+returns : tie.Need-returns
+returns c = rw (← c .before .moved .ensures) (c .quiet .ensures)
+
+pub plainly-moved-spec : {M : Type 1} → statement M
+plainly-moved-spec = tie.close (tie.spec moved-requires quiet-requires returns)

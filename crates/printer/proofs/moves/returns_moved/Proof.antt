@@ -1,0 +1,34 @@
+use Rattle.printer.specs.Network.{sideMoved}
+use mathlib.Core.Path.{_≡_, refl, sym, _∙_}
+use borrow.Author.Needs.{needs}
+use Rattle.printer.proofs.moves.returns_moved.Statement.{statement}
+use Rattle.printer.proofs.moves.returns_moved.Tie as tie
+use Rattle.printer.proofs.moves.returns_moved.Reads as reads
+use Rattle.printer.proofs.moves.returns_moved.Lts as lts
+use Rattle.negotiation.proofs.is_yes.Reads as is-yes-reads
+use Rattle.negotiation.proofs.moved.Reads as moved-reads
+
+-- src/moves.rt:54:9
+moved-requires : tie.Need-moved-requires
+moved-requires c κs = search needs
+
+-- src/moves.rt:57:8
+is-yes-requires : tie.Need-is-yes-requires
+is-yes-requires c κs = search needs
+
+-- src/moves.rt:58:9
+returns : tie.Need-returns
+unfolding sideMoved
+returns c =
+    rw (c .before .before .moved .ensures, sym (c .before .is-yes .ensures) ∙ c .if1 .taken)
+    (record { view = refl; clean = λ k. record { reader = k .reader; table = k .table; echo = k .echo } })
+
+-- src/moves.rt:50:1
+returns-2 : tie.Need-returns-2
+unfolding sideMoved
+returns-2 c =
+    rw (c .before .before .moved .ensures, sym (c .before .is-yes .ensures) ∙ c .if1 .left)
+    (record { view = refl; clean = λ k. record { reader = k .reader; table = k .table; echo = k .echo } })
+
+pub returns-moved-spec : {M : Type 1} → statement M
+returns-moved-spec = tie.close (tie.spec moved-requires is-yes-requires returns returns-2)

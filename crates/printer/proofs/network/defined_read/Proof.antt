@@ -1,0 +1,82 @@
+use mathlib.Core.List.{List}
+use Rattle.printer.proofs.Views.{sized-view}
+use Rattle.printer.specs.Kept.{viewPrinter, textIn}
+use Rattle.printer.specs.Network.{byteRead, bytesRead, entryRead}
+use Rattle.printer.specs.State.{Printer}
+use Rattle.macros.proofs.View.{text-entry, plain-entry}
+use Rattle.macros.specs.Packed.{textOf}
+use Rattle.macros.specs.Texts.{Entry, entryOf, plain, text}
+use lib.ListN.{length}
+use Prim.Native.Nat.{ℕ, _≤_}
+use native.Mathlib.Omega.{arith}
+use mathlib.Core.Path.{_≡_, refl, sym, ap, subst, _∙_}
+use borrow.Author.Needs.{needs}
+use Rattle.printer.proofs.network.defined_read.Statement.{statement}
+use Rattle.printer.proofs.network.defined_read.Tie as tie
+use Rattle.printer.proofs.network.defined_read.Reads as reads
+use Rattle.printer.proofs.network.defined_read.Lts as lts
+use Rattle.macros.proofs.is_defined.Reads as is-defined-reads
+use Rattle.macros.proofs.text_of.Reads as text-of-reads
+use Rattle.printer.proofs.network.byte_read.Reads as byte-read-reads
+use Rattle.printer.proofs.network.text_read.Reads as text-read-reads
+
+-- a text's entry is read as the copy that was taken of it
+as-text : (s : Printer) (b : ℕ) (e : Entry) (t : List ℕ) → e ≡ text (textOf e) → t ≡ textOf e → entryRead s b e ≡ bytesRead s t
+as-text s b e t h c = ap (λ (x : Entry). entryRead s b x) h ∙ ap (λ (x : List ℕ). bytesRead s x) (sym c)
+
+-- src/network.rt:113:8
+is-defined-requires : tie.Need-is-defined-requires
+is-defined-requires c κs = search needs
+
+-- src/network.rt:114:13
+text-of-requires : tie.Need-text-of-requires
+text-of-requires c κs = search needs
+
+-- src/network.rt:115:9
+text-read-requires : tie.Need-text-read-requires
+text-read-requires c κs =
+    let z = sized-view (c .before .before .before .before .before .before .before .before .args .s) .texts (c .before .before .before .before .before .before .before .before .args .b) in
+    (omega (arith, c .before .before .text-of .ensures .count), rw (as-text (viewPrinter (c .before .before .before .before .before .before .before .before .args .s)) (c .before .before .before .before .before .before .before .before .args .b) (entryOf (viewPrinter (c .before .before .before .before .before .before .before .before .args .s) .table) (c .before .before .before .before .before .before .before .before .args .b)) (textIn (c .before .before .text-of .result)) (text-entry _ (sym (c .before .before .before .before .is-defined .ensures) ∙ c .before .before .before .if1 .taken)) (c .before .before .text-of .ensures .bytes)) at (c .before .before .before .before .before .before .before .before .pre))
+
+-- src/network.rt:115:9
+same-length : tie.Need-same-length
+same-length c = search needs
+
+-- src/network.rt:115:9
+same-length-2 : tie.Need-same-length-2
+same-length-2 c = search needs
+
+-- src/network.rt:115:9
+returns : tie.Need-returns
+returns c = rw (as-text (viewPrinter (c .before .before .before .before .before .before .before .before .before .before .before .before .before .args .s)) (c .before .before .before .before .before .before .before .before .before .before .before .before .before .args .b) (entryOf (viewPrinter (c .before .before .before .before .before .before .before .before .before .before .before .before .before .args .s) .table) (c .before .before .before .before .before .before .before .before .before .before .before .before .before .args .b)) (textIn (c .before .before .before .before .before .before .before .text-of .result)) (text-entry _ (sym (c .before .before .before .before .before .before .before .before .before .is-defined .ensures) ∙ c .before .before .before .before .before .before .before .before .if1 .taken)) (c .before .before .before .before .before .before .before .text-of .ensures .bytes)) (c .before .before .before .before .text-read .ensures)
+
+-- src/network.rt:117:5
+byte-read-requires : tie.Need-byte-read-requires
+byte-read-requires c κs = rw (ap (λ (x : Entry). entryRead (viewPrinter (c .before .before .before .before .before .before .before .args .s)) (c .before .before .before .before .before .before .before .args .b) x) (plain-entry (entryOf (viewPrinter (c .before .before .before .before .before .before .before .args .s) .table) (c .before .before .before .before .before .before .before .args .b)) (sym (c .before .before .before .is-defined .ensures) ∙ c .before .before .if1 .left))) at (c .before .before .before .before .before .before .before .pre)
+
+-- src/network.rt:107:1
+same-length-3 : tie.Need-same-length-3
+same-length-3 c = search needs
+
+-- src/network.rt:107:1
+same-length-4 : tie.Need-same-length-4
+same-length-4 c = search needs
+
+-- src/network.rt:107:1
+returns-2 : tie.Need-returns-2
+returns-2 c = rw (ap (λ (x : Entry). entryRead (viewPrinter (c .before .before .before .before .before .before .before .before .before .before .before .before .args .s)) (c .before .before .before .before .before .before .before .before .before .before .before .before .args .b) x) (plain-entry (entryOf (viewPrinter (c .before .before .before .before .before .before .before .before .before .before .before .before .args .s) .table) (c .before .before .before .before .before .before .before .before .before .before .before .before .args .b)) (sym (c .before .before .before .before .before .before .before .before .is-defined .ensures) ∙ c .before .before .before .before .before .before .before .if1 .left))) (c .before .before .before .before .byte-read .ensures)
+
+pub defined-read-spec : {M : Type 1} → statement M
+defined-read-spec =
+    tie.close
+    (tie.spec
+    is-defined-requires
+    text-of-requires
+    text-read-requires
+    same-length
+    same-length-2
+    returns
+    byte-read-requires
+    same-length-3
+    same-length-4
+    returns-2)

@@ -1,0 +1,96 @@
+-- The printer end as the code keeps it: its view, its clean cells, and how a step and an answer of the code meet the rules.
+use mathlib.Core.Path.{_≡_}
+use mathlib.Core.Bool.{Bool, true, false}
+use mathlib.Core.List.{List, [], _++_}
+use Prim.Native.Nat.{ℕ}
+use lib.ListN.{take}
+use Rattle.lists.specs.Buffers.{Wrote}
+use Rattle.codes.specs.declared.Code.{Code}
+use Rattle.codes.specs.declared.Code.the-variants.{Done}
+use Rattle.codes.specs.declared.Note.{Note}
+use Rattle.codes.specs.declared.Note.the-variants.{Clear}
+use Rattle.reader.specs.Kept.{viewReader, CleanReader}
+use Rattle.macros.specs.Packed.{viewTexts, CleanTexts}
+use Rattle.echo.specs.View.{viewEcho, CleanEcho}
+use Rattle.printer.specs.declared.Printer as code-printer
+use Rattle.printer.specs.declared.Step.{Step}
+use Rattle.printer.specs.declared.Answer as code-answer
+use Rattle.macros.specs.declared.Text.{Text}
+use Rattle.reader.specs.declared.Item.the-variants.{BodyEnd}
+use Rattle.negotiation.specs.declared.Side.{Side}
+use Rattle.negotiation.specs.declared.Standing.{Standing}
+use Rattle.negotiation.specs.Carried.{moved}
+use Rattle.printer.specs.State.{Printer, Did, Answer, fresh}
+use Rattle.printer.specs.Network.{itemRead}
+
+abbrev pub viewPrinter : code-printer.Printer → Printer
+viewPrinter p = record { sides = p .sides; reader = viewReader (p .reader); table = viewTexts (p .table); echo = viewEcho (p .echo); values = p .values }
+
+pub record CleanPrinter (p : code-printer.Printer) : Type 0 where
+  pub reader : CleanReader (p .reader)
+  pub table : CleanTexts (p .table)
+  pub echo : CleanEcho (p .echo)
+
+-- the bytes that were written to the two lent buffers, from what they held to what they hold
+pub record WroteTo (d : Did) (held held′ lay lay′ : List ℕ) (n m : ℕ) : Type 0 where
+  pub paper : Wrote (d .paper) held held′ n
+  pub wire : Wrote (d .wire) lay lay′ m
+
+-- a step of the code does what the rule says, and leaves nothing behind in cells that are no longer used
+pub record MetStep (d : Did) (p : code-printer.Printer) (held held′ lay lay′ : List ℕ) (r : Step) : Type 0 where
+  pub note : r .note ≡ d .note
+  pub wrote : WroteTo d held held′ lay lay′ (r .paper) (r .wire)
+  pub view : viewPrinter (r .state) ≡ d .state
+  pub clean : CleanPrinter p → CleanPrinter (r .state)
+
+-- an answer of the code is the rule's: code, note, counts, every lent byte and the new state; a refusal returns the very
+-- state that it was given
+pub record MetAnswer (a : Answer) (p : code-printer.Printer) (held held′ lay lay′ : List ℕ) (r : code-answer.Answer) : Type 0 where
+  pub code : r .code ≡ a .code
+  pub note : r .note ≡ a .did .note
+  pub wrote : WroteTo (a .did) held held′ lay lay′ (r .paper) (r .wire)
+  pub view : viewPrinter (r .state) ≡ a .did .state
+  pub clean : CleanPrinter p → CleanPrinter (r .state)
+  pub same : (a .code ≡ Done → ⊥) → r .state ≡ p
+
+-- the code's answers: a refusal, with the state that was given and nothing written, and a step that was done
+abbrev pub refusal : code-printer.Printer → Code → code-answer.Answer
+refusal p c = record { code = c; note = Clear; paper = 0; wire = 0; state = p }
+
+abbrev pub answered : Step → code-answer.Answer
+answered r = record { code = Done; note = r .note; paper = r .paper; wire = r .wire; state = r .state }
+
+-- a step that writes nothing
+abbrev pub Quiet : Note → code-printer.Printer → Step → Type 0
+Quiet n p r = r ≡ record { note = n; paper = 0; wire = 0; state = p }
+
+-- the sides of the code's state after one of them moved
+abbrev pub sidesMoved : code-printer.Printer → Side → Standing → code-printer.Printer
+sidesMoved p side q = record { sides = moved (p .sides) side q; reader = p .reader; table = p .table; echo = p .echo; values = p .values }
+
+-- a step that only changes the state
+pub record MetQuiet (d : Did) (p r : code-printer.Printer) : Type 0 where
+  pub view : viewPrinter r ≡ d .state
+  pub clean : CleanPrinter p → CleanPrinter r
+
+-- one that writes nothing, that writes only on the wire, or only on the paper
+pub record MetQuietly (d : Did) (p : code-printer.Printer) (r : Step) : Type 0 where
+  pub met : (held lay : List ℕ) → MetStep d p held held lay lay r
+
+pub record MetWire (d : Did) (p : code-printer.Printer) (lay lay′ : List ℕ) (r : Step) : Type 0 where
+  pub met : (held : List ℕ) → MetStep d p held held lay lay′ r
+
+pub record MetPaper (d : Did) (p : code-printer.Printer) (held held′ : List ℕ) (r : Step) : Type 0 where
+  pub met : (lay : List ℕ) → MetStep d p held held′ lay lay r
+
+-- the text that a copy has
+abbrev pub textIn : Text → List ℕ
+textIn t = take (t .len) (t .bytes)
+
+-- the end of a body: the reader's body is handled, and the reader is empty
+abbrev pub bodyEndRead : Printer → Did
+bodyEndRead s = itemRead s BodyEnd
+
+pub record MetFresh (p : code-printer.Printer) : Type 0 where
+  pub view : viewPrinter p ≡ fresh
+  pub clean : CleanPrinter p

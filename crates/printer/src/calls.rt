@@ -1,0 +1,235 @@
+// The printer end's calls. None asks anything of its caller.
+ghost use mathlib.Core.Path.{_≡_};
+ghost use mathlib.Core.Bool.{false, _&&_};
+ghost use lib.ListN.{length};
+ghost use Rattle.codes.specs.Answers.{noRoom};
+ghost use Rattle.echo.specs.Control.{isFull};
+ghost use Rattle.printer.specs.State.{rcteOn};
+ghost use Rattle.printer.specs.Calls.{networkCall, keyCall, keyTyped, badKey, askCall, suggestCall, returnsReport};
+ghost use Rattle.lists.specs.Buffers.{RoomFor};
+ghost use Rattle.printer.specs.Kept.{viewPrinter, MetAnswer, MetStep, MetFresh, refusal, answered};
+use crate::Answer;
+use crate::Printer;
+use crate::Step;
+use crate::moves;
+use crate::network;
+use crate::on;
+use codes::Code;
+use codes::Note;
+use disposition::Handling;
+use disposition::Values;
+use keys::Key;
+use negotiation::Asked;
+use negotiation::Sides;
+use negotiation::Standing;
+
+pub fn fresh() -> Printer
+    ensures { λ r. ⌜ MetFresh r ⌝ }
+{
+    let sides = Sides {
+        echo: Standing::No,
+        sga: Standing::No,
+        rcte: Standing::No,
+        bm: Standing::No,
+        printersga: Standing::No,
+        naocrd: Standing::No,
+    };
+    let reader = reader::idle();
+    let table = macros::empty();
+    let echo = echo::started();
+    let values = Values { ds: 255, dr: 0 };
+    Printer {
+        sides,
+        reader,
+        table,
+        echo,
+        values,
+    }
+}
+
+// A refusal: the state that was given, and nothing written.
+fn refused(s: Printer, code: Code) -> Answer
+    ensures { λ r. ⌜ r ≡ refusal s code ⌝ }
+{
+    Answer {
+        code,
+        note: Note::Clear,
+        paper: 0,
+        wire: 0,
+        state: s,
+    }
+}
+
+fn done(step: Step) -> Answer
+    ensures { λ r. ⌜ r ≡ answered step ⌝ }
+{
+    let state = step.state;
+    let note = step.note;
+    Answer {
+        code: Code::Done,
+        note,
+        paper: step.paper,
+        wire: step.wire,
+        state,
+    }
+}
+
+// Code 1: a lent buffer that is too small.
+fn no_room(paper: usize, wire: usize) -> bool
+    ensures { λ r. ⌜ r ≡ noRoom paper wire ⌝ }
+{
+    if paper < 1024 {
+        return true;
+    }
+    wire < 2048
+}
+
+pub fn network_byte(s: Printer, b: u8, paper: &mut [u8], wire: &mut [u8]) -> Answer
+    ensures { λ r. ⌜ MetAnswer (networkCall (viewPrinter s) b (length (now (paper .entry))) (length (now (wire .entry)))) s (now (paper .entry)) (now (paper .exit)) (now (wire .entry)) (now (wire .exit)) r ⌝ }
+{
+    if no_room(paper.len(), wire.len()) {
+        return refused(s, Code::NoRoom);
+    }
+    let step = network::network_read(s, b, paper, wire);
+    done(step)
+}
+
+// A Command outside 241 to 249.
+fn bad_key(k: Key) -> bool
+    ensures { λ r. ⌜ r ≡ badKey k ⌝ }
+{
+    match k {
+        Key::Char(_) => false,
+        Key::Line => false,
+        Key::Command(c) => !codes::plain_command(c),
+    }
+}
+
+// RCTE holds keys back, and as many wait as can.
+fn queue_full(s: Printer) -> bool
+    ensures { λ r. ⌜ r ≡ (rcteOn (viewPrinter s) && isFull (viewPrinter s .echo)) ⌝ }
+{
+    let sides = s.sides;
+    if on::rcte(sides) {
+        let control = s.echo;
+        return echo::is_full(control);
+    }
+    false
+}
+
+// A key that nothing refuses.
+fn key_typed(s: Printer, k: Key, paper: &mut [u8], wire: &mut [u8]) -> Step
+    requires { ⌜ (rcteOn (viewPrinter s) && isFull (viewPrinter s .echo)) ≡ false ⌝ }
+    requires { ⌜ RoomFor (keyTyped (viewPrinter s) k .paper) (now paper) ⌝ }
+    requires { ⌜ RoomFor (keyTyped (viewPrinter s) k .wire) (now wire) ⌝ }
+    ensures { λ r. ⌜ MetStep (keyTyped (viewPrinter s) k) s (now (paper .entry)) (now (paper .exit)) (now (wire .entry)) (now (wire .exit)) r ⌝ }
+{
+    let sides = s.sides;
+    let control = s.echo;
+    if on::rcte(sides) {
+        let e = echo::pressed(control, k, paper, wire);
+        let after = e.echo;
+        let mut t = s;
+        t.echo = after;
+        return Step {
+            note: Note::Clear,
+            paper: e.paper,
+            wire: e.wire,
+            state: t,
+        };
+    }
+    let echoed = on::echo(sides);
+    let sent = echo::send_key(k, echoed, paper, wire);
+    Step {
+        note: Note::Clear,
+        paper: sent.paper,
+        wire: sent.wire,
+        state: s,
+    }
+}
+
+pub fn press(s: Printer, k: Key, paper: &mut [u8], wire: &mut [u8]) -> Answer
+    ensures { λ r. ⌜ MetAnswer (keyCall (viewPrinter s) k (length (now (paper .entry))) (length (now (wire .entry)))) s (now (paper .entry)) (now (paper .exit)) (now (wire .entry)) (now (wire .exit)) r ⌝ }
+{
+    if no_room(paper.len(), wire.len()) {
+        return refused(s, Code::NoRoom);
+    }
+    if bad_key(k) {
+        return refused(s, Code::BadCommand);
+    }
+    if queue_full(s) {
+        return refused(s, Code::QueueFull);
+    }
+    let step = key_typed(s, k, paper, wire);
+    done(step)
+}
+
+// An option is asked for or given up: ways 0 and 1 disable and enable his side, 2 and 3 ours.
+pub fn ask(s: Printer, option: u8, way: u8, paper: &mut [u8], wire: &mut [u8]) -> Answer
+    ensures { λ r. ⌜ MetAnswer (askCall (viewPrinter s) option way (length (now (paper .entry))) (length (now (wire .entry)))) s (now (paper .entry)) (now (paper .exit)) (now (wire .entry)) (now (wire .exit)) r ⌝ }
+{
+    if no_room(paper.len(), wire.len()) {
+        return refused(s, Code::NoRoom);
+    }
+    let side = negotiation::asked_side_printer(option, way);
+    if !negotiation::is_carried(side) {
+        return refused(s, Code::NotCarried);
+    }
+    let enable = negotiation::asked_enable(way);
+    let sides = s.sides;
+    if negotiation::clashes(sides, side, enable) {
+        return refused(s, Code::EchoAgainstRcte);
+    }
+    let old = negotiation::standing_of(sides, side);
+    let asked = negotiation::ask(enable, old);
+    let Asked::Moves(q, reply) = asked else {
+        return refused(s, Code::AlreadySo);
+    };
+    let whose = negotiation::asked_whose(way);
+    let step = moves::replied(s, side, q, whose, reply, option, paper, wire);
+    done(step)
+}
+
+// This end's value about carriage returns, DR.
+pub fn suggest(s: Printer, v: u8, paper: &mut [u8], wire: &mut [u8]) -> Answer
+    ensures { λ r. ⌜ MetAnswer (suggestCall (viewPrinter s) v (length (now (paper .entry))) (length (now (wire .entry)))) s (now (paper .entry)) (now (paper .exit)) (now (wire .entry)) (now (wire .exit)) r ⌝ }
+{
+    if no_room(paper.len(), wire.len()) {
+        return refused(s, Code::NoRoom);
+    }
+    let sides = s.sides;
+    if !on::returns(sides) {
+        return refused(s, Code::NotInForce);
+    }
+    if bodies::bad_value(v) {
+        return refused(s, Code::BadValue);
+    }
+    let old = s.values;
+    if v == old.dr {
+        return refused(s, Code::AlreadySo);
+    }
+    let body = [10u8, 0, v];
+    let n = wire::put_frame(&body, wire);
+    let values = Values { ds: old.ds, dr: v };
+    let mut t = s;
+    t.values = values;
+    Answer {
+        code: Code::Done,
+        note: Note::Clear,
+        paper: 0,
+        wire: n,
+        state: t,
+    }
+}
+
+// Who handles carriage returns, and how.
+pub fn report(s: Printer) -> Handling
+    ensures { λ r. ⌜ r ≡ returnsReport (viewPrinter s) ⌝ }
+{
+    let sides = s.sides;
+    if on::returns(sides) {
+        let values = s.values;
+        return disposition::handling_of(values);
+    }
+    Handling::Receiver(255)
+}

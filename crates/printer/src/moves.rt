@@ -1,0 +1,201 @@
+// Negotiation: what is heard, and what follows as a side's standing changes.
+ghost use mathlib.Core.Path.{_≡_};
+ghost use mathlib.Core.List.{[]};
+ghost use Rattle.lists.specs.Buffers.{RoomFor};
+ghost use Rattle.negotiation.specs.Carried.{replyBytes};
+ghost use Rattle.negotiation.specs.declared.Side.the-variants.{Rcte, Macro, Returns};
+ghost use Rattle.printer.specs.Network.{rcteMoved, sideMoved, negotiationRead};
+ghost use mathlib.Core.Bool.{true, false};
+ghost use Rattle.printer.specs.Kept.{viewPrinter, sidesMoved, MetStep, MetQuiet, Quiet};
+ghost use Rattle.codes.specs.declared.Note.the-variants.{Clear};
+use crate::Printer;
+use crate::Step;
+use crate::on;
+use codes::Note;
+use codes::Verb;
+use codes::Whose;
+use disposition::Values;
+use negotiation::Reply;
+use negotiation::Side;
+use negotiation::Standing;
+
+// A step that writes nothing.
+pub fn quiet(s: Printer, note: Note) -> Step
+    ensures { λ r. ⌜ Quiet note s r ⌝ }
+{
+    Step {
+        note,
+        paper: 0,
+        wire: 0,
+        state: s,
+    }
+}
+
+// RCTE's end: gathered bytes are sent, and all waiting keys sent and printed.
+fn rcte_ended(s: Printer, paper: &mut [u8], wire: &mut [u8]) -> Step
+    requires { ⌜ RoomFor (rcteMoved true false [] (viewPrinter s) .paper) (now paper) ⌝ }
+    requires { ⌜ RoomFor (rcteMoved true false [] (viewPrinter s) .wire) (now wire) ⌝ }
+    ensures { λ r. ⌜ MetStep (rcteMoved true false [] (viewPrinter s)) s (now (paper .entry)) (now (paper .exit)) (now (wire .entry)) (now (wire .exit)) r ⌝ }
+{
+    let sides = s.sides;
+    let echoed = on::echo(sides);
+    let control = s.echo;
+    let e = echo::ended(control, echoed, paper, wire);
+    let after = e.echo;
+    let mut t = s;
+    t.echo = after;
+    Step {
+        note: Note::Clear,
+        paper: e.paper,
+        wire: e.wire,
+        state: t,
+    }
+}
+
+// RCTE ends as it leaves YES, and starts anew as it reaches YES.
+fn rcte_moved(s: Printer, q: Standing, paper: &mut [u8], wire: &mut [u8]) -> Step
+    requires { ⌜ RoomFor (sideMoved (viewPrinter s) Rcte q [] .paper) (now paper) ⌝ }
+    requires { ⌜ RoomFor (sideMoved (viewPrinter s) Rcte q [] .wire) (now wire) ⌝ }
+    ensures { λ r. ⌜ MetStep (sideMoved (viewPrinter s) Rcte q []) s (now (paper .entry)) (now (paper .exit)) (now (wire .entry)) (now (wire .exit)) r ⌝ }
+{
+    let old = s.sides;
+    let was = on::rcte(old);
+    let on = negotiation::is_yes(q);
+    let sides = negotiation::moved(old, Side::Rcte, q);
+    let mut t = s;
+    t.sides = sides;
+    if on {
+        if was {
+            return quiet(t, Note::Clear);
+        }
+        let control = echo::started();
+        t.echo = control;
+        return quiet(t, Note::Clear);
+    }
+    if was {
+        return rcte_ended(t, paper, wire);
+    }
+    quiet(t, Note::Clear)
+}
+
+// The macros are forgotten as BM is no longer in force.
+fn macro_moved(s: Printer, q: Standing) -> Printer
+    ensures { λ r. ⌜ MetQuiet (sideMoved (viewPrinter s) Macro q []) s r ⌝ }
+{
+    let old = s.sides;
+    let sides = negotiation::moved(old, Side::Macro, q);
+    let mut t = s;
+    t.sides = sides;
+    if negotiation::still_on(q) {
+        return t;
+    }
+    let table = macros::empty();
+    t.table = table;
+    t
+}
+
+// Both values are forgotten as NAOCRD is no longer in force.
+fn returns_moved(s: Printer, q: Standing) -> Printer
+    ensures { λ r. ⌜ MetQuiet (sideMoved (viewPrinter s) Returns q []) s r ⌝ }
+{
+    let old = s.sides;
+    let sides = negotiation::moved(old, Side::Returns, q);
+    let mut t = s;
+    t.sides = sides;
+    if negotiation::is_yes(q) {
+        return t;
+    }
+    let values = Values { ds: 255, dr: 0 };
+    t.values = values;
+    t
+}
+
+// A side's standing changes, with what follows from it; the reply is written before this.
+fn side_moved(s: Printer, side: Side, q: Standing, paper: &mut [u8], wire: &mut [u8]) -> Step
+    requires { ⌜ RoomFor (sideMoved (viewPrinter s) side q [] .paper) (now paper) ⌝ }
+    requires { ⌜ RoomFor (sideMoved (viewPrinter s) side q [] .wire) (now wire) ⌝ }
+    ensures { λ r. ⌜ MetStep (sideMoved (viewPrinter s) side q []) s (now (paper .entry)) (now (paper .exit)) (now (wire .entry)) (now (wire .exit)) r ⌝ }
+{
+    match side {
+        Side::Rcte => rcte_moved(s, q, paper, wire),
+        Side::Macro => {
+            let t = macro_moved(s, q);
+            quiet(t, Note::Clear)
+        }
+        Side::Returns => {
+            let t = returns_moved(s, q);
+            quiet(t, Note::Clear)
+        }
+        Side::Uncarried => quiet(s, Note::Clear),
+        Side::Echo => plainly_moved(s, Side::Echo, q),
+        Side::BulletinSga => plainly_moved(s, Side::BulletinSga, q),
+        Side::PrinterSga => plainly_moved(s, Side::PrinterSga, q),
+    }
+}
+
+// Nothing but the standing changes.
+fn plainly_moved(s: Printer, side: Side, q: Standing) -> Step
+    ensures { λ r. ⌜ Quiet Clear (sidesMoved s side q) r ⌝ }
+{
+    let old = s.sides;
+    let sides = negotiation::moved(old, side, q);
+    let mut t = s;
+    t.sides = sides;
+    quiet(t, Note::Clear)
+}
+
+// The reply or the request goes first, then what follows from the change.
+pub fn replied(
+    s: Printer,
+    side: Side,
+    q: Standing,
+    whose: Whose,
+    reply: Reply,
+    option: u8,
+    paper: &mut [u8],
+    wire: &mut [u8],
+) -> Step
+    requires { ⌜ RoomFor (sideMoved (viewPrinter s) side q (replyBytes whose reply option) .paper) (now paper) ⌝ }
+    requires { ⌜ RoomFor (sideMoved (viewPrinter s) side q (replyBytes whose reply option) .wire) (now wire) ⌝ }
+    ensures { λ r. ⌜ MetStep (sideMoved (viewPrinter s) side q (replyBytes whose reply option)) s (now (paper .entry)) (now (paper .exit)) (now (wire .entry)) (now (wire .exit)) r ⌝ }
+{
+    let n = negotiation::put_reply(whose, reply, option, wire);
+    let step = side_moved(s, side, q, paper, &mut wire[n..]);
+    let m = step.wire;
+    let state = step.state;
+    let note = step.note;
+    Step {
+        note,
+        paper: step.paper,
+        wire: n + m,
+        state,
+    }
+}
+
+// WILL, WONT, DO or DONT of an option.
+pub fn negotiated(s: Printer, v: Verb, option: u8, paper: &mut [u8], wire: &mut [u8]) -> Step
+    requires { ⌜ RoomFor (negotiationRead (viewPrinter s) v option .paper) (now paper) ⌝ }
+    requires { ⌜ RoomFor (negotiationRead (viewPrinter s) v option .wire) (now wire) ⌝ }
+    ensures { λ r. ⌜ MetStep (negotiationRead (viewPrinter s) v option) s (now (paper .entry)) (now (paper .exit)) (now (wire .entry)) (now (wire .exit)) r ⌝ }
+{
+    let whose = codes::whose_of(v);
+    let enable = codes::enables(v);
+    let side = negotiation::printer_side(whose, option);
+    let sides = s.sides;
+    if negotiation::is_carried(side) {
+        let agreed = negotiation::free(sides, side);
+        let old = negotiation::standing_of(sides, side);
+        let h = negotiation::hear(enable, agreed, old);
+        let q = h.next;
+        let reply = h.reply;
+        return replied(s, side, q, whose, reply, option, paper, wire);
+    }
+    let reply = negotiation::declined(enable);
+    let n = negotiation::put_reply(whose, reply, option, wire);
+    Step {
+        note: Note::Clear,
+        paper: 0,
+        wire: n,
+        state: s,
+    }
+}

@@ -1,0 +1,138 @@
+// A network byte: read as it stands, or replaced by a macro's text.
+ghost use mathlib.Core.Path.{_≡_};
+ghost use Prim.Native.Nat.{_≤_};
+ghost use Rattle.lists.specs.Buffers.{RoomFor};
+ghost use Rattle.printer.specs.Network.{dataRead, itemRead, byteRead, bytesRead, entryRead, networkRead};
+ghost use Rattle.macros.specs.Texts.{entryOf};
+ghost use Rattle.printer.specs.Kept.{viewPrinter, MetStep, MetPaper, textIn};
+use crate::Printer;
+use crate::Step;
+use crate::body;
+use crate::moves;
+use crate::on;
+use codes::Note;
+use macros::Text;
+use reader::Item;
+
+// Data is printed as it is; under RCTE it then holds.
+pub fn data_read(s: Printer, b: u8, paper: &mut [u8]) -> Step
+    requires { ⌜ RoomFor (dataRead (viewPrinter s) b .paper) (now paper) ⌝ }
+    ensures { λ r. ⌜ MetPaper (dataRead (viewPrinter s) b) s (now (paper .entry)) (now (paper .exit)) r ⌝ }
+{
+    paper[0] = b;
+    let sides = s.sides;
+    let mut t = s;
+    if on::rcte(sides) {
+        let control = s.echo;
+        let held = echo::holding(control);
+        t.echo = held;
+        return Step {
+            note: Note::Clear,
+            paper: 1,
+            wire: 0,
+            state: t,
+        };
+    }
+    Step {
+        note: Note::Clear,
+        paper: 1,
+        wire: 0,
+        state: t,
+    }
+}
+
+// What a byte completed.
+fn item_read(s: Printer, item: Item, paper: &mut [u8], wire: &mut [u8]) -> Step
+    requires { ⌜ RoomFor (itemRead (viewPrinter s) item .paper) (now paper) ⌝ }
+    requires { ⌜ RoomFor (itemRead (viewPrinter s) item .wire) (now wire) ⌝ }
+    ensures { λ r. ⌜ MetStep (itemRead (viewPrinter s) item) s (now (paper .entry)) (now (paper .exit)) (now (wire .entry)) (now (wire .exit)) r ⌝ }
+{
+    match item {
+        Item::Nothing => moves::quiet(s, Note::Clear),
+        Item::Data(b) => data_read(s, b, paper),
+        Item::Negotiated(v, option) => moves::negotiated(s, v, option, paper, wire),
+        Item::BodyEnd => body::body_read(s, paper, wire),
+        Item::StrayCommand => moves::quiet(s, Note::Stray),
+    }
+}
+
+// A byte read as it stands.
+pub fn byte_read(s: Printer, b: u8, paper: &mut [u8], wire: &mut [u8]) -> Step
+    requires { ⌜ RoomFor (byteRead (viewPrinter s) b .paper) (now paper) ⌝ }
+    requires { ⌜ RoomFor (byteRead (viewPrinter s) b .wire) (now wire) ⌝ }
+    ensures { λ r. ⌜ MetStep (byteRead (viewPrinter s) b) s (now (paper .entry)) (now (paper .exit)) (now (wire .entry)) (now (wire .exit)) r ⌝ }
+{
+    let old = s.reader;
+    let read = reader::read_byte(old, b);
+    let item = read.item;
+    let next = read.reader;
+    let mut t = s;
+    t.reader = next;
+    item_read(t, item, paper, wire)
+}
+
+// The bytes of a macro's text, in reading order; the first note is kept.
+fn text_read(s: Printer, text: Text, paper: &mut [u8], wire: &mut [u8]) -> Step
+    requires { ⌜ text .len ≤ 255 ⌝ }
+    requires { ⌜ RoomFor (bytesRead (viewPrinter s) (textIn text) .paper) (now paper) ⌝ }
+    requires { ⌜ RoomFor (bytesRead (viewPrinter s) (textIn text) .wire) (now wire) ⌝ }
+    ensures { λ r. ⌜ MetStep (bytesRead (viewPrinter s) (textIn text)) s (now (paper .entry)) (now (paper .exit)) (now (wire .entry)) (now (wire .exit)) r ⌝ }
+{
+    let bytes = text.bytes;
+    let count = text.len;
+    let mut state = s;
+    let mut note = Note::Clear;
+    let mut i: usize = 0;
+    let mut p: usize = 0;
+    let mut w: usize = 0;
+    while i < count {
+        let b = bytes[i];
+        let step = byte_read(state, b, &mut paper[p..], &mut wire[w..]);
+        p += step.paper;
+        w += step.wire;
+        let said = step.note;
+        note = codes::first_note(note, said);
+        state = step.state;
+        i += 1;
+    }
+    Step {
+        note,
+        paper: p,
+        wire: w,
+        state,
+    }
+}
+
+// A byte that may be defined, with BM in force and the reader between commands.
+fn defined_read(s: Printer, b: u8, paper: &mut [u8], wire: &mut [u8]) -> Step
+    requires { ⌜ RoomFor (entryRead (viewPrinter s) b (entryOf (viewPrinter s .table) b) .paper) (now paper) ⌝ }
+    requires { ⌜ RoomFor (entryRead (viewPrinter s) b (entryOf (viewPrinter s .table) b) .wire) (now wire) ⌝ }
+    ensures { λ r. ⌜ MetStep (entryRead (viewPrinter s) b (entryOf (viewPrinter s .table) b)) s (now (paper .entry)) (now (paper .exit)) (now (wire .entry)) (now (wire .exit)) r ⌝ }
+{
+    let table = s.table;
+    if macros::is_defined(table, b) {
+        let text = macros::text_of(table, b);
+        return text_read(s, text, paper, wire);
+    }
+    byte_read(s, b, paper, wire)
+}
+
+// With BM in force and the reader between commands a defined byte is replaced.
+pub fn network_read(s: Printer, b: u8, paper: &mut [u8], wire: &mut [u8]) -> Step
+    requires { ⌜ RoomFor (networkRead (viewPrinter s) b .paper) (now paper) ⌝ }
+    requires { ⌜ RoomFor (networkRead (viewPrinter s) b .wire) (now wire) ⌝ }
+    ensures { λ r. ⌜ MetStep (networkRead (viewPrinter s) b) s (now (paper .entry)) (now (paper .exit)) (now (wire .entry)) (now (wire .exit)) r ⌝ }
+{
+    let sides = s.sides;
+    if !on::macros(sides) {
+        return byte_read(s, b, paper, wire);
+    }
+    if macros::is_unmarked(&s.table.marks, b) {
+        return byte_read(s, b, paper, wire);
+    }
+    let reading = s.reader;
+    if !reader::is_between(reading) {
+        return byte_read(s, b, paper, wire);
+    }
+    defined_read(s, b, paper, wire)
+}

@@ -1,0 +1,105 @@
+-- What was written, and the hex of the bytes that are left, are the hex of all.
+use mathlib.Core.Path.{_≡_}
+use mathlib.Core.List.{_∷_}
+use Prim.Native.Nat.{_+_, _-_, _≤_}
+use native.Mathlib.Numerals.{add-one}
+use native.Mathlib.Omega.{arith}
+use borrow.Author.Needs.{needs}
+use lib.ListN.{length, drop, getD}
+use lib.Seq.{drop-cons}
+use Rattle.lists.specs.Lists.{joined}
+use Rattle.lists.proofs.Filling.{Filling, nothing-filled, room-done, still-long, run-room, run-more, run-done}
+use Rattle.tape.specs.Lines.{hexByte}
+use Rattle.tape.proofs.lines.put_hex_bytes.Statement.{statement}
+use Rattle.tape.proofs.lines.put_hex_bytes.Tie as tie
+
+abbrev Inv-loop : tie.InvT-loop
+Inv-loop bytes out₀ i₀ n₀ out i n = (i ≤ length bytes) × Filling (joined hexByte bytes) (joined hexByte (drop i bytes)) out₀ out n
+
+abbrev μ-loop : tie.MeasureT-loop
+μ-loop bytes out₀ i₀ n₀ out i n = length bytes - i
+
+within : (c : tie.At-loop Inv-loop μ-loop) → c .loop .n ≤ length (c .loop .out)
+within c =
+    let room = c .before .before .before .pre in
+    omega (arith, room-done (c .loop .inv .1) room, still-long (c .loop .inv .1) room)
+
+-- the byte of a turn stands before those behind it
+next : (c : tie.In-loop Inv-loop μ-loop)
+    → drop (c .before .loop .i) (c .before .before .before .before .args .bytes .now)
+    ≡ getD (c .before .before .before .before .args .bytes .now) (c .before .loop .i) 0 ∷ drop (c .before .loop .i + 1) (c .before .before .before .before .args .bytes .now)
+next c =
+    let bytes = c .before .before .before .before .args .bytes .now in
+    rw (add-one (c .before .loop .i)) (drop-cons bytes (c .before .loop .i) 0 (c .loop-test .taken))
+
+loop-holds : tie.Need-loop-holds Inv-loop μ-loop
+loop-holds c = (omega arith, nothing-filled _ _)
+
+shared-slice-read-b : tie.Need-shared-slice-read-b Inv-loop μ-loop
+shared-slice-read-b c = search needs
+
+sub-put-hex-byte : tie.Need-sub-put-hex-byte Inv-loop μ-loop
+sub-put-hex-byte c = within (c .before .before)
+
+part-put-hex-byte-start : tie.Need-part-put-hex-byte-start Inv-loop μ-loop
+part-put-hex-byte-start c = within (c .before .before)
+
+part-put-hex-byte-end : tie.Need-part-put-hex-byte-end Inv-loop μ-loop
+part-put-hex-byte-end c = search needs
+
+put-hex-byte-requires : tie.Need-put-hex-byte-requires Inv-loop μ-loop
+put-hex-byte-requires c κs =
+    let turn = c .before .before in
+    let head = turn .before in
+    let start = head .before .before .before in
+    run-room hexByte (start .args .bytes .now) (head .loop .i) _ (next turn) (head .loop .inv .1) (start .pre)
+
+add-n : tie.Need-add-n Inv-loop μ-loop
+add-n c =
+    let sent = c .before .before in
+    let turn = sent .before .before .before in
+    let head = turn .before in
+    let start = head .before .before .before in
+    let more = run-more hexByte (start .args .bytes .now) (head .loop .i) _ (next turn) (head .loop .inv .1) (start .pre) _ _ (sent .put-hex-byte .ensures) in
+    omega (arith, room-done more (start .pre), start .good .1 .0 .0)
+
+add-i : tie.Need-add-i Inv-loop μ-loop
+add-i c = search needs
+
+loop-less : tie.Need-loop-less Inv-loop μ-loop
+loop-less c = search needs
+
+loop-again : tie.Need-loop-again Inv-loop μ-loop
+loop-again c =
+    let sent = c .before .before in
+    let turn = sent .before .before .before in
+    let head = turn .before in
+    let start = head .before .before .before in
+    (omega arith, run-more hexByte (start .args .bytes .now) (head .loop .i) _ (next turn) (head .loop .inv .1) (start .pre) _ _ (sent .put-hex-byte .ensures))
+
+same-length : tie.Need-same-length Inv-loop μ-loop
+same-length c = still-long (c .before .loop .inv .1) (c .before .before .before .before .pre)
+
+returns : tie.Need-returns Inv-loop μ-loop
+returns c =
+    let head = c .before in
+    run-done hexByte (head .before .before .before .args .bytes .now) (head .loop .i) (c .loop-test .left) (head .loop .inv .1)
+
+pub put-hex-bytes-spec : {M : Type 1} → statement M
+put-hex-bytes-spec =
+    tie.close
+    (tie.spec
+    Inv-loop
+    μ-loop
+    loop-holds
+    shared-slice-read-b
+    sub-put-hex-byte
+    part-put-hex-byte-start
+    part-put-hex-byte-end
+    put-hex-byte-requires
+    add-n
+    add-i
+    loop-less
+    loop-again
+    same-length
+    returns)

@@ -1,0 +1,75 @@
+// The fields of a tape: a one-byte tag, a two-byte length with its high byte first, and the body.
+ghost use mathlib.Core.Path.{_≡_};
+ghost use Prim.Native.Nat.{_+_, _≤_};
+ghost use lib.ListN.{length};
+ghost use Rattle.tape.specs.Fields.{headSize, sizeAt, isKnown, foundAt, partOf};
+use super::Cursor;
+use super::Found;
+
+// The tag and the length.
+const HEAD: usize = 3;
+
+// The length that a field's head names.
+fn size_at(tape: &[u8], at: usize) -> usize
+    requires { ⌜ at + headSize ≤ length (now tape) ⌝ }
+    ensures { λ r. ⌜ r ≡ sizeAt (now (tape .entry)) at ⌝ }
+{
+    let high = tape[at + 1] as usize;
+    let low = tape[at + 2] as usize;
+    256 * high + low
+}
+
+// Whether items can be read of a body of that size under that tag: network bytes, or key and ask pairs.
+fn is_known(tag: u8, size: usize) -> bool
+    ensures { λ r. ⌜ r ≡ isKnown tag size ⌝ }
+{
+    match tag {
+        1 => true,
+        2 | 3 => size % 2 == 0,
+        _ => false,
+    }
+}
+
+// What stands at a cursor.
+pub fn found_at(tape: &[u8], c: Cursor) -> Found
+    ensures { λ r. ⌜ r ≡ foundAt (now (tape .entry)) (c .at) ⌝ }
+{
+    let at = c.at;
+    let end = tape.len();
+    if end <= at {
+        return Found::End;
+    }
+    if end - at < HEAD {
+        return Found::Bad;
+    }
+    let start = at + HEAD;
+    let size = size_at(tape, at);
+    if end - start < size {
+        return Found::Bad;
+    }
+    let tag = tape[at];
+    if is_known(tag, size) {
+        Found::Field {
+            tag,
+            start,
+            size,
+            next: Cursor { at: start + size },
+        }
+    } else {
+        Found::Bad
+    }
+}
+
+// A field's body: that part of the tape, or what there is of it where the tape is shorter.
+pub fn body_of(tape: &[u8], start: usize, size: usize) -> &[u8]
+    ensures { λ r. ⌜ now r ≡ partOf (now (tape .entry)) start size ⌝ }
+{
+    if tape.len() <= start {
+        return &tape[..0];
+    }
+    if size <= tape.len() - start {
+        &tape[start..start + size]
+    } else {
+        &tape[start..]
+    }
+}
