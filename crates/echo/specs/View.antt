@@ -1,13 +1,14 @@
 -- The code's state seen as the rules' state, and what a call of the code owes to a rule.
 use mathlib.Core.Path.{_≡_}
-use mathlib.Core.List.{List, map}
+use mathlib.Core.List.{List, [], map}
 use Prim.Native.Nat.{ℕ, min}
 use lib.ListN.{take}
 use Rattle.lists.specs.Buffers.{Wrote, Clean}
 use Rattle.keys.specs.declared.Key.{Key}
 use Rattle.keys.specs.Packing.{unpacked}
 use Rattle.echo.specs.Taking.{Orders, gatherRoom}
-use Rattle.echo.specs.Control.{Echo, Echoed, waitRoom, started}
+use Rattle.lists.specs.Choice.{pick}
+use Rattle.echo.specs.Control.{Echo, Echoed, waitRoom, started, isFull, pressed}
 use Rattle.echo.specs.declared.Echo.{Echo as EchoCells}
 use Rattle.echo.specs.declared.Echoed.{Echoed as EchoedCells}
 use Rattle.echo.specs.declared.Written.{Written}
@@ -52,3 +53,7 @@ pub record MetEchoed (o : Echoed) (e : EchoCells) (paper₀ paper₁ wire₀ wir
 pub record WroteBoth (onPaper onWire paper₀ paper₁ wire₀ wire₁ : List ℕ) (r : Written) : Type 0 where
   pub paper : Wrote onPaper paper₀ paper₁ (r .paper)
   pub wire : Wrote onWire wire₀ wire₁ (r .wire)
+
+-- a key that finds the queue full changes nothing
+abbrev pub pressedIfRoom : Echo → Key → Echoed
+pressedIfRoom e k = pick (isFull e) (record { paper = []; wire = []; taken = []; echo = e }) (pressed e k)

@@ -9,7 +9,7 @@ ghost use Rattle.lists.specs.Buffers.{RoomFor, Wrote};
 ghost use Rattle.keys.specs.Keys.{keyWire};
 ghost use Rattle.echo.specs.Taking.{takenUp, sentPaper, sentFirst, isBreak, isSend, isSkipped, flushes};
 ghost use Rattle.echo.specs.Control as control;
-ghost use Rattle.echo.specs.View.{waitingIn, viewEcho, Begun, Kept, MetEchoed, WroteBoth};
+ghost use Rattle.echo.specs.View.{waitingIn, viewEcho, Begun, Kept, MetEchoed, WroteBoth, pressedIfRoom};
 ghost use Rattle.echo.specs.Steps.{orderCells, viewOrders, gatheredCells, bytesIn, printed, staysFirst, Gathers, MetSent, MetTaken, ordering, releasing, leftAt, Left};
 use bodies::Action;
 use bodies::Classes;
@@ -402,8 +402,8 @@ fn queued(e: Echo, k: Key) -> Echo
     more
 }
 
-// A key under RCTE: it waits where keys are held, and else is taken up at once.
-pub fn pressed(e: Echo, k: Key, paper: &mut [u8], wire: &mut [u8]) -> Echoed
+// It waits where keys are held, and else is taken up at once.
+fn pressed_in_room(e: Echo, k: Key, paper: &mut [u8], wire: &mut [u8]) -> Echoed
     requires { ⌜ control.isFull (viewEcho e) ≡ false ⌝ }
     requires { ⌜ RoomFor (control.pressed (viewEcho e) k .paper) (now paper) ⌝ }
     requires { ⌜ RoomFor (control.pressed (viewEcho e) k .wire) (now wire) ⌝ }
@@ -427,6 +427,22 @@ pub fn pressed(e: Echo, k: Key, paper: &mut [u8], wire: &mut [u8]) -> Echoed
         wire: t.wire,
         echo,
     }
+}
+
+// A key under RCTE. One that finds the queue full changes nothing.
+pub fn pressed(e: Echo, k: Key, paper: &mut [u8], wire: &mut [u8]) -> Echoed
+    requires { ⌜ RoomFor (pressedIfRoom (viewEcho e) k .paper) (now paper) ⌝ }
+    requires { ⌜ RoomFor (pressedIfRoom (viewEcho e) k .wire) (now wire) ⌝ }
+    ensures { λ r. ⌜ MetEchoed (pressedIfRoom (viewEcho e) k) e (now (paper .entry)) (now (paper .exit)) (now (wire .entry)) (now (wire .exit)) r ⌝ }
+{
+    if is_full(e) {
+        return Echoed {
+            paper: 0,
+            wire: 0,
+            echo: e,
+        };
+    }
+    pressed_in_room(e, k, paper, wire)
 }
 
 // Waiting keys are taken up in order until one of them breaks; none left, later keys are taken at once.

@@ -20,7 +20,8 @@ unfolding keyTyped
 pressed-requires c κs =
     let at-if = c .before .before in
     let start = at-if .before .before .before .before .before .before in
-    rw (sym (at-if .before .rcte .ensures) ∙ at-if .if1 .taken) at (start .pre)
+    let p = rw (sym (at-if .before .rcte .ensures) ∙ at-if .if1 .taken) at (start .pre) in
+    rw (p .0) (p .1)
 
 -- src/calls.rt:134:9
 same-length : tie.Need-same-length
@@ -36,7 +37,9 @@ unfolding keyTyped
 returns c =
     let at-call = c .before .before .before .before .before in
     let at-if = at-call .before .before .before in
-    let e = at-call .pressed .ensures in
+    let start = at-if .before .before .before .before .before .before in
+    let p = rw (sym (at-if .before .rcte .ensures) ∙ at-if .if1 .taken) at (start .pre) in
+    let e = rw (p .0) at (at-call .pressed .ensures) in
     rw (sym (at-if .before .rcte .ensures) ∙ at-if .if1 .taken)
     (record {
       note = refl;
