@@ -31,7 +31,8 @@ use Rattle.bulletin.specs.Network.{dataRead, sideMoved, sideHeard, negot
 use Rattle.bulletin.specs.Calls.{noWire, networkCall, askCall, suggestCall, badOrder, orderCall, defineCall, useCall, badItem, itemSent, textCall}
 use Rattle.bulletin.specs.Session.{network, ask, suggest, order, define, useMacro, text, called}
 use Rattle.bulletin.specs.Limits.{FitsWire, Fits, NetworkFits, MoveFits, SuggestionFits, OrderFits, DefineFits, ItemFits, CallFits}
-use Rattle.bulletin.proofs.LimitsBytes.{reply-long, frame-long, define-long, cancel-long, order-long, item-long, stored-long}
+use Rattle.negotiation.proofs.Replies.{reply-long}
+use Rattle.bulletin.proofs.LimitsBytes.{frame-long, define-long, cancel-long, order-long, item-long, stored-long}
 
 sent : {bytes : List ℕ} {s : Bulletin} → FitsWire bytes → Fits (sends bytes s)
 sent l = record { host = lit≤ tt; wire = l }

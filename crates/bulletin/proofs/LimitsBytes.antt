@@ -12,13 +12,10 @@ use Rattle.lists.specs.Lists.{joined}
 use Rattle.lists.proofs.Lengths.{chosen, either, joined-within}
 use Rattle.lists.proofs.Tables.{both-right}
 use Rattle.codes.specs.Telnet.{IAC, RCTE, BM, DEFINE}
-use Rattle.codes.specs.declared.Whose.{Whose}
 use Rattle.keys.specs.declared.Key.{Key}
 use Rattle.keys.specs.declared.Key.the-variants.{Char, Line, Command}
 use Rattle.wire.specs.Frames.{coded, doubled, frame}
-use Rattle.negotiation.specs.declared.Reply.{Reply}
-use Rattle.negotiation.specs.declared.Reply.the-variants.{Silent, Positive, Negative}
-use Rattle.negotiation.specs.Carried.{replyBytes}
+use Rattle.wire.proofs.Coded.{coded-long}
 use Rattle.macros.specs.Texts.{textRoom}
 use Rattle.bodies.specs.RcteBodies.{setsBreaks, setsSends}
 use Rattle.definitions.specs.Sending.{Definitions, sentOf, isFree, stored, storedRoom, sentTotal, defining, isTooLong, defineBytes, dataBytes}
@@ -27,14 +24,8 @@ use Rattle.disposition.specs.declared.Handling.the-variants.{Sender, Receiver}
 use Rattle.disposition.specs.Returns.{padded, lineBytes, returnBytes, itemData}
 use Rattle.bulletin.specs.Calls.{pairBytes, orderBytes, itemBytes}
 
-pub reply-long : (whose : Whose) (r : Reply) (option : ℕ) → length (replyBytes whose r option) ≤ 3
-reply-long whose Silent option = lit≤ tt
-reply-long whose Positive option = lit≤ tt
-reply-long whose Negative option = lit≤ tt
-
 doubled-long : (bs : List ℕ) → length (doubled bs) ≤ 2 * length bs
-unfolding coded
-doubled-long bs = joined-within coded 2 (λ b. either (λ (l : List ℕ). length l ≤ 2) (eqb b IAC) (lit≤ tt) (lit≤ tt)) bs
+doubled-long bs = joined-within coded 2 coded-long bs
 
 -- a frame doubles its body at most, and adds four bytes
 pub frame-long : (body : List ℕ) → length (frame body) ≤ 2 * length body + 4

@@ -33,7 +33,9 @@ use Rattle.printer.specs.Limits.{textLimit, Sized, InBytes, Limited, Fit
 use Rattle.macros.specs.Packed.{textOf}
 use Rattle.printer.proofs.LimitsEcho.{key-paper, key-wire, presses}
 use Rattle.printer.proofs.LimitsReader.{credit, no-credit, credit-within}
-use Rattle.printer.proofs.LimitsNetwork.{with-values, with-echo, Step, moves, reply-long, coded-long, byte-step, bytes-step}
+use Rattle.negotiation.proofs.Replies.{reply-long}
+use Rattle.wire.proofs.Coded.{coded-long}
+use Rattle.printer.proofs.LimitsNetwork.{with-values, with-echo, Step, moves, byte-step, bytes-step}
 
 -- a step that is within these fits
 step-fits : {H : Type 0} {p n : ℕ} {d : Did} (s : Printer) → Sized s → p ≤ textLimit → credit (s .reader) + n ≤ 529 → Step (s .echo) (s .reader) p n H d → Fits d

@@ -15,6 +15,8 @@ use Rattle.codes.specs.declared.Note.{Note}
 use Rattle.codes.specs.declared.Note.the-variants.{Unreadable, Inactive, OtherOption, Stray}
 use Rattle.codes.specs.declared.Verb.{Verb}
 use Rattle.codes.specs.declared.Whose.{Whose}
+use Rattle.negotiation.proofs.Replies.{reply-long}
+use Rattle.wire.proofs.Coded.{coded-long, coded-one}
 use Rattle.wire.specs.Frames.{coded, frame}
 use Rattle.lists.specs.Lists.{joined}
 use Rattle.negotiation.specs.declared.Reply.{Reply}
@@ -149,11 +151,6 @@ moves n s BulletinSga q reply l = turns n s (moved (s .sides) BulletinSga q) rep
 moves n s PrinterSga q reply l = turns n s (moved (s .sides) PrinterSga q) reply l
 moves n s Uncarried q reply l = sending n s (λ h. h) reply l
 
-pub reply-long : (whose : Whose) (r : Reply) (option : ℕ) → length (replyBytes whose r option) ≤ 3
-reply-long whose Silent option = lit≤ tt
-reply-long whose Positive option = lit≤ tt
-reply-long whose Negative option = lit≤ tt
-
 negotiates : (s : Printer) (v : Verb) (option : ℕ) → Step (s .echo) (s .reader) 1 3 (Limited s) (negotiationRead s v option)
 unfolding negotiationRead sideHeard heardBy
 negotiates s v option =
@@ -178,14 +175,6 @@ accepts t x (count ∷ string) i all =
 defines : (t : Table) (x : ℕ) (rest : List ℕ) → InBytes rest → AllShort t → AllShort (afterDefine (judged t x rest) t x (drop 1 rest))
 unfolding judged
 defines t x rest i all = either (λ v. AllShort (afterDefine v t x (drop 1 rest))) (eqb x 255) all (accepts t x rest i all)
-
-pub coded-long : (b : ℕ) → length (coded b) ≤ 2
-unfolding coded
-coded-long b = either (λ (l : List ℕ). length l ≤ 2) (eqb b IAC) (lit≤ tt) (lit≤ tt)
-
-coded-one : (b : ℕ) → eqb b IAC ≡ false → length (coded b) ≡ 1
-unfolding coded
-coded-one b e = rw e
 
 verdict-long : (v : Verdict) (x : ℕ) → length (verdictBytes v x) ≤ 10
 unfolding frame joined

@@ -1,4 +1,3 @@
-pub mod Guards
 pub mod Sessions
 pub mod Steps
 pub mod Bytes

@@ -24,7 +24,7 @@ use Rattle.bulletin.specs.Calls.{textCall, textData, useCall, useData, itemSent
 use Rattle.bulletin.specs.Session as BS
 use Rattle.read_back.specs.ReadBack.{Agreed, readAll, ReadAs, ReadBack, Sending, item, macroUse, asCall, answer, sentData, allData, allWire}
 use Rattle.read_back.specs.ReadBack.{stateAfter, reached, FreshAgree, EachReadBack, AllReadBack}
-use Rattle.read_back.proofs.Guards.{Judged, stopped, passed, judged, NoneHolds}
+use Rattle.codes.proofs.Guards.{Judged, stopped, passed, judged, NoneHolds}
 use Rattle.read_back.proofs.Sessions.{IacFree, called-free, iac-stays-free}
 use Rattle.read_back.proofs.Steps.{steps, steps-append, all-read, none-read, then-read, readAll-steps}
 use Rattle.read_back.proofs.Bytes.{command-read}

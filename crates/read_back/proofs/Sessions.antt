@@ -33,7 +33,7 @@ use Rattle.bulletin.specs.Network.{dataRead, sideMoved, sideHeard, negotiationR
 use Rattle.bulletin.specs.Calls.{networkCall, askCall, suggestCall, orderCall, defineGuards, defineCall, useCall, itemSent, textCall}
 use Rattle.bulletin.specs.Session.{Call, network, ask, suggest, order, define, useMacro, text, called}
 use Rattle.read_back.specs.ReadBack.{IacStaysFree, stateAfter}
-use Rattle.read_back.proofs.Guards.{Judged, stopped, passed, judged}
+use Rattle.codes.proofs.Guards.{Judged, stopped, passed, judged}
 
 abbrev FreeIn : Definitions → Type 0
 FreeIn t = sentOf t IAC ≡ free

@@ -6,7 +6,7 @@ use Rattle.negotiation.specs.Carried.{replyBytes, askedBy}
 use Rattle.printer.specs.Kept.{viewPrinter}
 use Rattle.printer.specs.Network.{sideMoved}
 use Rattle.printer.specs.Calls.{askCall}
-use Rattle.printer.proofs.LimitsNetwork.{reply-long}
+use Rattle.negotiation.proofs.Replies.{reply-long}
 use Rattle.printer.proofs.Limits.{move-fits}
 use Rattle.printer.proofs.Views.{sized-view, room-for}
 use Rattle.printer.proofs.Answering.{met-refused, met-done}
