@@ -13,10 +13,11 @@ use Rattle.lists.specs.Buffers.{Clean}
 use Rattle.lists.proofs.Moving.{map-drop}
 use Rattle.lists.proofs.Appended.{appended, clean-appended}
 use Rattle.lists.proofs.Zeros.{clean-append}
+use Rattle.lists.proofs.Lengths.{every-set, every-append, every-replicate, every-take, every-drop}
 use Rattle.keys.specs.declared.Key.{Key}
-use Rattle.keys.specs.Packing.{unpacked}
+use Rattle.keys.specs.Packing.{packed, unpacked}
 use Rattle.echo.specs.declared.Echo.{Echo}
-use Rattle.echo.specs.View.{keysIn, waitingIn}
+use Rattle.echo.specs.View.{keysIn, waitingIn, Numbered}
 
 -- the next of the waiting keys
 pub next-key : (cells : List ℕ) (n i : ℕ) → i < n → n ≤ length cells
@@ -65,6 +66,26 @@ module _ (cells : List ℕ) (n : ℕ) (l : length cells ≡ 256) where
       let e : min n 256 ≡ n = omega (arith, clean .within) in
       let inside : n < length cells = omega arith in
       rw e (clean-appended cells n p inside clean)
+
+-- a cell that has the number of the key that it is read as
+abbrev IsNumber : ℕ → Type 0
+IsNumber n = packed (unpacked n) ≡ n
+
+zero-number : IsNumber 0
+unfolding unpacked
+zero-number = refl
+
+pub no-numbers : (n : ℕ) → Numbered (replicate n 0)
+no-numbers n = every-replicate IsNumber 0 n 0 zero-number zero-number
+
+pub left-numbers : (cells : List ℕ) (n at : ℕ) → Numbered cells → Numbered (drop at (take (min n 256) cells) ++ replicate (256 - (min n 256 - at)) 0)
+left-numbers cells n at h =
+    every-append IsNumber 0 (drop at (take (min n 256) cells)) (replicate (256 - (min n 256 - at)) 0)
+    (every-drop IsNumber 0 at (take (min n 256) cells) (every-take IsNumber 0 zero-number (min n 256) cells h))
+    (no-numbers (256 - (min n 256 - at)))
+
+pub queued-numbers : (cells : List ℕ) (n p : ℕ) → packed (unpacked p) ≡ p → Numbered cells → Numbered (set cells (min n 256) p)
+queued-numbers cells n p e h = every-set IsNumber 0 cells (min n 256) p e h
 
 -- the gathered bytes
 module _ (cells : List ℕ) (filled : ℕ) (l : length cells ≡ 512) where

@@ -11,7 +11,7 @@ use Rattle.keys.specs.Keys.{keyPaper}
 use Rattle.bodies.specs.declared.RcteCommand.{RcteCommand}
 use Rattle.echo.specs.Taking.{Orders, Taken, gatherRoom, isSkipped, overflows}
 use Rattle.echo.specs.Control.{Echo, Echoed, released, ordersNow}
-use Rattle.echo.specs.View.{viewEcho, CleanEcho}
+use Rattle.echo.specs.View.{viewEcho, CleanEcho, Numbered}
 use Rattle.echo.specs.declared.Echo.{Echo as EchoCells}
 use Rattle.echo.specs.declared.Orders.{Orders as OrderCells}
 use Rattle.echo.specs.declared.Gathered.{Gathered}
@@ -68,6 +68,6 @@ releasing e = released (e .orders) (e .gathered) (e .waiting)
 abbrev pub leftAt : Echo → List ℕ → ℕ → Bool → Echo
 leftAt e gathered at held = record { held = held; orders = e .orders; waiting = drop at (e .waiting); gathered = gathered }
 
-pub record Left (to : Echo) (g : Gathered) (after : EchoCells) : Type 0 where
+pub record Left (to : Echo) (g : Gathered) (before after : EchoCells) : Type 0 where
   pub echo : viewEcho after ≡ to
-  pub clean : CleanGathered g → CleanEcho after
+  pub clean : CleanGathered g → Numbered (before .waiting) → CleanEcho after

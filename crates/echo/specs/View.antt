@@ -2,10 +2,10 @@
 use mathlib.Core.Path.{_≡_}
 use mathlib.Core.List.{List, [], map}
 use Prim.Native.Nat.{ℕ, min}
-use lib.ListN.{take}
+use lib.ListN.{take, getD}
 use Rattle.lists.specs.Buffers.{Wrote, Clean}
 use Rattle.keys.specs.declared.Key.{Key}
-use Rattle.keys.specs.Packing.{unpacked}
+use Rattle.keys.specs.Packing.{packed, unpacked}
 use Rattle.echo.specs.Taking.{Orders, gatherRoom}
 use Rattle.lists.specs.Choice.{pick}
 use Rattle.echo.specs.Control.{Echo, Echoed, waitRoom, started, isFull, pressed}
@@ -30,8 +30,13 @@ abbrev pub viewEcho : EchoCells → Echo
 viewEcho e = record { held = e .held; orders = ordersIn e; waiting = waitingIn e; gathered = gatheredIn e }
 
 -- each count is within its array, and the cells past it are 0
+-- each cell for a waiting key has the number of the key that it is read as
+abbrev pub Numbered : List ℕ → Type 0
+Numbered cells = (i : ℕ) → packed (unpacked (getD cells i 0)) ≡ getD cells i 0
+
 pub record CleanEcho (e : EchoCells) : Type 0 where
   pub waiting : Clean (e .waiting) (e .count)
+  pub numbers : Numbered (e .waiting)
   pub gathered : Clean (e .gathered) (e .filled)
 
 pub record Begun (e : EchoCells) : Type 0 where

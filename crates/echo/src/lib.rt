@@ -200,7 +200,7 @@ fn shifted(keys: [u16; 256], from: usize, count: usize) -> [u16; 256]
 // The state once so many of the waiting keys were taken up.
 fn left(e: Echo, g: Gathered, at: usize, held: bool) -> Echo
     requires { ⌜ at ≤ min (e .count) 256 ⌝ }
-    ensures { λ r. ⌜ Left (leftAt (viewEcho e) (bytesIn g) at held) g r ⌝ }
+    ensures { λ r. ⌜ Left (leftAt (viewEcho e) (bytesIn g) at held) g e r ⌝ }
 {
     let count = capped(e.count, 256);
     let keys = e.waiting;

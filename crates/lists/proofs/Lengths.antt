@@ -2,10 +2,11 @@
 use mathlib.Core.Path.{_≡_, refl}
 use mathlib.Core.Bool.{Bool, true, false}
 use mathlib.Core.List.{List, [], _∷_, _++_}
-use Prim.Native.Nat.{ℕ, zero, suc, _*_, _≤_}
+use Prim.Native.Nat.{ℕ, zero, suc, _+_, _*_, _≤_}
 use native.Mathlib.Nat.{mul-suc}
 use native.Mathlib.Omega.{arith}
-use lib.ListN.{length, getD, set, replicate, length-append}
+use lib.ListN.{length, getD, set, take, drop, replicate, length-append}
+use lib.Seq.{getD-drop}
 use Rattle.lists.specs.Choice.{pick}
 use Rattle.lists.specs.Lists.{joined}
 
@@ -30,6 +31,15 @@ module _ {X : Type 0} (P : X → Type 0) (d : X) where
   every-set (x ∷ l) zero v p h (suc j) = h (suc j)
   every-set (x ∷ l) (suc i) v p h zero = h zero
   every-set (x ∷ l) (suc i) v p h (suc j) = every-set l i v p (λ n. h (suc n)) j
+
+  pub every-take : P d → (n : ℕ) (l : List X) → ((j : ℕ) → P (getD l j d)) → (j : ℕ) → P (getD (take n l) j d)
+  every-take p zero l h j = p
+  every-take p (suc n) [] h j = p
+  every-take p (suc n) (x ∷ l) h zero = h zero
+  every-take p (suc n) (x ∷ l) h (suc j) = every-take p n l (λ i. h (suc i)) j
+
+  pub every-drop : (n : ℕ) (l : List X) → ((j : ℕ) → P (getD l j d)) → (j : ℕ) → P (getD (drop n l) j d)
+  every-drop n l h j = rw (getD-drop n l j d) (h (n + j))
 
   pub every-append : (l m : List X) → ((j : ℕ) → P (getD l j d)) → ((j : ℕ) → P (getD m j d)) → (j : ℕ) → P (getD (l ++ m) j d)
   every-append [] m h g j = g j

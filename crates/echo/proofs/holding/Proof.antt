@@ -3,7 +3,7 @@ use Rattle.echo.proofs.holding.Statement.{statement}
 use Rattle.echo.proofs.holding.Tie as tie
 
 returns : tie.Need-returns
-returns c = record { echo = refl; clean = λ h. record { waiting = h .waiting; gathered = h .gathered } }
+returns c = record { echo = refl; clean = λ h. record { waiting = h .waiting; numbers = h .numbers; gathered = h .gathered } }
 
 pub holding-spec : {M : Type 1} → statement M
 holding-spec = tie.close (tie.spec returns)

@@ -1,7 +1,7 @@
 use mathlib.Core.Path.{_≡_}
 use lib.ListN.{length}
 use borrow.Author.Needs.{needs}
-use Rattle.echo.proofs.Cells.{left-keys, left-clean}
+use Rattle.echo.proofs.Cells.{left-keys, left-clean, left-numbers}
 use Rattle.echo.proofs.left.Statement.{statement}
 use Rattle.echo.proofs.left.Tie as tie
 
@@ -22,7 +22,7 @@ returns c =
     rw (c .before .before .shifted .ensures, c .before .before .before .before .capped .ensures)
     (record {
       echo = rw (left-keys (e .waiting) (e .count) l (start .args .at) (start .pre));
-      clean = λ h. record { waiting = left-clean (e .waiting) (e .count) l (start .args .at) (start .pre); gathered = h };
+      clean = λ h k. record { numbers = left-numbers (e .waiting) (e .count) (start .args .at) k; waiting = left-clean (e .waiting) (e .count) l (start .args .at) (start .pre); gathered = h };
     })
 
 pub left-spec : {M : Type 1} → statement M

@@ -21,7 +21,7 @@ returns c = rw (c .enum-told .given .1) (record { echo = refl; clean = λ h. h }
 returns-2 : tie.Need-returns-2
 returns-2 c =
     rw (c .before .before .before .before .before .c .given .1, c .before .before .before .classes-now .ensures, c .before .before .classes-now2 .ensures)
-    (record { echo = refl; clean = λ h. record { waiting = h .waiting; gathered = h .gathered } })
+    (record { echo = refl; clean = λ h. record { waiting = h .waiting; numbers = h .numbers; gathered = h .gathered } })
 
 pub ordered-spec : {M : Type 1} → statement M
 ordered-spec =

@@ -54,7 +54,7 @@ returns-2 c =
       paper = took .paper;
       wire = took .wire;
       echo = rw (← took .broke, ← took .gathered .bytes) (c .left .ensures .echo);
-      clean = λ h. c .left .ensures .clean (took .gathered .clean (h .gathered));
+      clean = λ h. c .left .ensures .clean (took .gathered .clean (h .gathered)) (h .numbers);
     })
 
 pub pressed-in-room-spec : {M : Type 1} → statement M

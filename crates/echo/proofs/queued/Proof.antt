@@ -1,4 +1,4 @@
-use mathlib.Core.Path.{_≡_, _∙_, ap}
+use mathlib.Core.Path.{_≡_, _∙_, ap, sym}
 use Prim.Native.Nat.{_<_, min}
 use native.Mathlib.Omega.{arith}
 use lib.ListN.{length}
@@ -6,10 +6,10 @@ use borrow.Author.Needs.{needs}
 use borrow.Fn.Kinds.{GoodsP}
 use Rattle.keys.specs.declared.Key.{Key}
 use Rattle.keys.specs.declared.Key.the-variants.{Char, Line, Command}
-use Rattle.keys.specs.Packing.{unpacked, ByteKey}
+use Rattle.keys.specs.Packing.{packed, unpacked, ByteKey}
 use Rattle.keys.proofs.Packing.{unpacked-packed}
 use Rattle.echo.specs.declared.Echo.{Echo}
-use Rattle.echo.proofs.Cells.{count-of, queued-keys, queued-clean}
+use Rattle.echo.proofs.Cells.{count-of, queued-keys, queued-clean, queued-numbers}
 use Rattle.echo.proofs.queued.Statement.{statement}
 use Rattle.echo.proofs.queued.Kinds as kinds
 use Rattle.echo.proofs.queued.Tie as tie
@@ -51,7 +51,7 @@ returns c =
     rw (c .before .before .capped .ensures)
     (record {
       echo = rw (queued-keys (e .waiting) (e .count) l (c .pack .result) k (free start) same);
-      clean = λ h. record { waiting = queued-clean (e .waiting) (e .count) l (c .pack .result) (free start) (h .waiting); gathered = h .gathered };
+      clean = λ h. record { waiting = queued-clean (e .waiting) (e .count) l (c .pack .result) (free start) (h .waiting); numbers = queued-numbers (e .waiting) (e .count) (c .pack .result) (ap packed same ∙ sym (c .pack .ensures)) (h .numbers); gathered = h .gathered };
     })
 
 pub queued-spec : {M : Type 1} → statement M

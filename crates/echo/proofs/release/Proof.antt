@@ -223,7 +223,7 @@ returns c =
       paper = so .onPaper;
       wire = so .onWire;
       echo = state .echo ∙ ap (λ (n : ℕ). leftAt (viewEcho (entry a .args .e)) (bytesIn (c .before .before .before .if1 .g)) n false) all ∙ sym (so .echo);
-      clean = λ h. state .clean (so .clean (h .gathered));
+      clean = λ h. state .clean (so .clean (h .gathered)) (h .numbers);
     }
 
 same-length-3 : tie.Need-same-length-3 Inv-loop μ-loop
@@ -240,7 +240,7 @@ returns-2 c =
       paper = so .onPaper;
       wire = so .onWire;
       echo = state .echo ∙ sym (so .echo);
-      clean = λ h. state .clean (so .clean (h .gathered));
+      clean = λ h. state .clean (so .clean (h .gathered)) (h .numbers);
     }
 
 pub release-spec : {M : Type 1} → statement M

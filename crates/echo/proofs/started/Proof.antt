@@ -1,3 +1,4 @@
+use Rattle.echo.proofs.Cells.{no-numbers}
 use mathlib.Core.Path.{refl}
 use mathlib.Core.List.{[]}
 use borrow.Author.Needs.{needs}
@@ -16,7 +17,7 @@ returns c =
     rw (c .before .no-keys .ensures, c .no-bytes .ensures)
     (record {
       echo = refl;
-      clean = record { waiting = clean-append [] 0 256 refl; gathered = clean-append [] 0 512 refl };
+      clean = record { waiting = clean-append [] 0 256 refl; numbers = no-numbers 256; gathered = clean-append [] 0 512 refl };
     })
 
 pub started-spec : {M : Type 1} → statement M

@@ -1,0 +1,114 @@
+-- Clean states with the same view.
+use mathlib.Core.Path.{_≡_, refl, sym, ap, ap₂, _∙_}
+use mathlib.Core.List.{List, [], _∷_, _++_, map, map-append, map-map}
+use Prim.Native.Nat.{ℕ, zero, suc, min, _-_}
+use native.Mathlib.Omega.{arith}
+use lib.ListN.{length, getD, take, drop, replicate, take-append-drop, length-map}
+use lib.Seq.{length-take-le}
+use Rattle.lists.specs.Buffers.{Clean}
+use Rattle.keys.specs.Packing.{packed, unpacked}
+use Rattle.reader.specs.declared.Reader.{Reader}
+use Rattle.reader.specs.Reading.{bodyRoom}
+use Rattle.reader.specs.Kept.{viewReader, CleanReader}
+use Rattle.macros.proofs.Determined.{clean-determined}
+use Rattle.echo.specs.Taking.{gatherRoom}
+use Rattle.echo.specs.Control.{waitRoom}
+use Rattle.printer.specs.declared.Printer.{Printer}
+use Rattle.runs.specs.Determined.{SameCells, KeysPacked, CountIsWaiting, Determined, DeterminedToTheByte}
+
+map-id : {X : Type 0} (xs : List X) → map (λ x. x) xs ≡ xs
+map-id [] = refl
+map-id (x ∷ xs) = ap (λ (l : List _). x ∷ l) (map-id xs)
+
+-- an array that is clean in its first n cells is known by how those are read
+module _ {X : Type 0} (f : ℕ → X) (cap : ℕ) where
+  used : (xs : List ℕ) (n : ℕ) → length xs ≡ cap → Clean xs n → length (map f (take (min n cap) xs)) ≡ n
+  used xs n l c =
+      let m : min n cap ≡ n = omega (arith, c .within) in
+      rw m (length-map (take n xs) f ∙ length-take-le n xs (c .within))
+
+  whole : (xs : List ℕ) (n : ℕ) → length xs ≡ cap → Clean xs n → map f xs ≡ map f (take (min n cap) xs) ++ map f (replicate (cap - n) 0)
+  whole xs n l c =
+      let m : min n cap ≡ n = omega (arith, c .within) in
+      let z : drop n xs ≡ replicate (cap - n) 0 = rw l at (c .zeros) in
+      rw (m, ← z, ← map-append f (take n xs) (drop n xs), take-append-drop n xs)
+
+  same-read : (xs ys : List ℕ) (n m : ℕ) → length xs ≡ cap → length ys ≡ cap → Clean xs n → Clean ys m
+      → map f (take (min n cap) xs) ≡ map f (take (min m cap) ys) → (n ≡ m) × (map f xs ≡ map f ys)
+  same-read xs ys n m lx ly cx cy e =
+      let count : n ≡ m = sym (used xs n lx cx) ∙ ap length e ∙ used ys m ly cy in
+      (count, whole xs n lx cx ∙ cc (e, count) ∙ sym (whole ys m ly cy))
+
+-- one whose cells are read as they are
+same-array : (cap : ℕ) (xs ys : List ℕ) (n m : ℕ) → length xs ≡ cap → length ys ≡ cap → Clean xs n → Clean ys m
+    → take (min n cap) xs ≡ take (min m cap) ys → (n ≡ m) × (xs ≡ ys)
+same-array cap xs ys n m lx ly cx cy e =
+    let s = same-read (λ x. x) cap xs ys n m lx ly cx cy (rw (map-id (take (min n cap) xs), map-id (take (min m cap) ys)) e) in
+    (s .0, sym (map-id xs) ∙ s .1 ∙ map-id ys)
+
+same-reader : (p q : Reader) → length (p .body) ≡ bodyRoom → length (q .body) ≡ bodyRoom → CleanReader p → CleanReader q → viewReader p ≡ viewReader q → p ≡ q
+same-reader p q lp lq cp cq e =
+    let phase = ap (λ v. v .phase) e in
+    let marred = ap (λ v. v .marred) e in
+    let b = same-array bodyRoom (p .body) (q .body) (p .len) (q .len) lp lq cp cq (ap (λ v. v .body) e) in
+    λ i. record { phase = phase i; marred = marred i; body = b .1 i; len = b .0 i }
+
+-- cells that are the numbers of their keys are known by the keys
+same-packed : (xs ys : List ℕ) → map unpacked xs ≡ map unpacked ys → map (λ n. packed (unpacked n)) xs ≡ xs → map (λ n. packed (unpacked n)) ys ≡ ys → xs ≡ ys
+same-packed xs ys e px py = sym px ∙ sym (map-map packed unpacked xs) ∙ ap (λ ks. map packed ks) e ∙ map-map packed unpacked ys ∙ py
+
+same-struct : (p q : Printer) → SameCells p q → KeysPacked p → KeysPacked q → p ≡ q
+same-struct p q s kp kq =
+    let waiting = same-packed (p .echo .waiting) (q .echo .waiting) (s .waiting) kp kq in
+    λ i. record {
+      sides = s .sides i;
+      reader = s .reader i;
+      table = s .table i;
+      echo = record {
+        held = s .held i;
+        action = s .action i;
+        breaks = s .breaks i;
+        sends = s .sends i;
+        waiting = waiting i;
+        count = s .count i;
+        gathered = s .gathered i;
+        filled = s .filled i;
+      };
+      values = s .values i;
+    }
+
+pub determined : Determined
+determined p q sp sq cp cq e =
+    let a = p .echo in
+    let b = q .echo in
+    let keys = same-read unpacked waitRoom (a .waiting) (b .waiting) (a .count) (b .count)
+    (sp .waiting) (sq .waiting) (cp .echo .waiting) (cq .echo .waiting) (ap (λ v. v .echo .waiting) e) in
+    let bytes = same-array gatherRoom (a .gathered) (b .gathered) (a .filled) (b .filled)
+    (sp .gathered) (sq .gathered) (cp .echo .gathered) (cq .echo .gathered) (ap (λ v. v .echo .gathered) e) in
+    let cells : SameCells p q = record {
+      sides = ap (λ v. v .sides) e;
+      reader = same-reader (p .reader) (q .reader) (sp .body) (sq .body) (cp .reader) (cq .reader) (ap (λ v. v .reader) e);
+      table = clean-determined (p .table) (q .table) (sp .cells) (sq .cells) (cp .table) (cq .table) (ap (λ v. v .table) e);
+      values = ap (λ v. v .values) e;
+      held = ap (λ v. v .echo .held) e;
+      action = ap (λ v. v .echo .orders .action) e;
+      breaks = ap (λ v. v .echo .orders .breaks) e;
+      sends = ap (λ v. v .echo .orders .sends) e;
+      waiting = keys .1;
+      count = keys .0;
+      gathered = bytes .1;
+      filled = bytes .0;
+    } in
+    record { cells = cells; same = same-struct p q cells }
+
+pub count-is-waiting : CountIsWaiting
+count-is-waiting p s c = sym (used unpacked waitRoom (p .echo .waiting) (p .echo .count) (s .waiting) (c .echo .waiting))
+
+-- cells that each have the number of their key
+numbered-map : (l : List ℕ) → ((i : ℕ) → packed (unpacked (getD l i 0)) ≡ getD l i 0) → map (λ n. packed (unpacked n)) l ≡ l
+numbered-map [] h = refl
+numbered-map (x ∷ l) h = ap₂ (λ (a : ℕ) (as′ : List ℕ). a ∷ as′) (h zero) (numbered-map l (λ i. h (suc i)))
+
+pub determined-to-the-byte : DeterminedToTheByte
+determined-to-the-byte p q sp sq cp cq e =
+    determined p q sp sq cp cq e .same (numbered-map (p .echo .waiting) (cp .echo .numbers)) (numbered-map (q .echo .waiting) (cq .echo .numbers))

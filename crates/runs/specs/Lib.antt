@@ -1,0 +1,4 @@
+pub mod Runs
+pub mod Contracts
+pub mod Determined
+pub mod TwoRuns
