@@ -11,3 +11,4 @@ pub mod Filling
 pub mod Grown
 pub mod Moving
 pub mod Behind
+pub mod ReadOff

@@ -13,8 +13,9 @@ use Rattle.reader.specs.Kept.{viewReader, CleanReader}
 use Rattle.macros.proofs.Determined.{clean-determined}
 use Rattle.echo.specs.Taking.{gatherRoom}
 use Rattle.echo.specs.Control.{waitRoom}
-use Rattle.printer.specs.declared.Printer.{Printer}
-use Rattle.runs.specs.Determined.{SameCells, KeysPacked, CountIsWaiting, Determined, DeterminedToTheByte}
+use Rattle.echo.specs.declared.Echo.{Echo}
+use Rattle.echo.specs.View.{viewEcho, CleanEcho}
+use Rattle.runs.specs.Determined.{CountIsWaiting, DeterminedToTheByte}
 
 map-id : {X : Type 0} (xs : List X) → map (λ x. x) xs ≡ xs
 map-id [] = refl
@@ -57,58 +58,40 @@ same-reader p q lp lq cp cq e =
 same-packed : (xs ys : List ℕ) → map unpacked xs ≡ map unpacked ys → map (λ n. packed (unpacked n)) xs ≡ xs → map (λ n. packed (unpacked n)) ys ≡ ys → xs ≡ ys
 same-packed xs ys e px py = sym px ∙ sym (map-map packed unpacked xs) ∙ ap (λ ks. map packed ks) e ∙ map-map packed unpacked ys ∙ py
 
-same-struct : (p q : Printer) → SameCells p q → KeysPacked p → KeysPacked q → p ≡ q
-same-struct p q s kp kq =
-    let waiting = same-packed (p .echo .waiting) (q .echo .waiting) (s .waiting) kp kq in
-    λ i. record {
-      sides = s .sides i;
-      reader = s .reader i;
-      table = s .table i;
-      echo = record {
-        held = s .held i;
-        action = s .action i;
-        breaks = s .breaks i;
-        sends = s .sends i;
-        waiting = waiting i;
-        count = s .count i;
-        gathered = s .gathered i;
-        filled = s .filled i;
-      };
-      values = s .values i;
-    }
-
-pub determined : Determined
-determined p q sp sq cp cq e =
-    let a = p .echo in
-    let b = q .echo in
-    let keys = same-read unpacked waitRoom (a .waiting) (b .waiting) (a .count) (b .count)
-    (sp .waiting) (sq .waiting) (cp .echo .waiting) (cq .echo .waiting) (ap (λ v. v .echo .waiting) e) in
-    let bytes = same-array gatherRoom (a .gathered) (b .gathered) (a .filled) (b .filled)
-    (sp .gathered) (sq .gathered) (cp .echo .gathered) (cq .echo .gathered) (ap (λ v. v .echo .gathered) e) in
-    let cells : SameCells p q = record {
-      sides = ap (λ v. v .sides) e;
-      reader = same-reader (p .reader) (q .reader) (sp .body) (sq .body) (cp .reader) (cq .reader) (ap (λ v. v .reader) e);
-      table = clean-determined (p .table) (q .table) (sp .cells) (sq .cells) (cp .table) (cq .table) (ap (λ v. v .table) e);
-      values = ap (λ v. v .values) e;
-      held = ap (λ v. v .echo .held) e;
-      action = ap (λ v. v .echo .orders .action) e;
-      breaks = ap (λ v. v .echo .orders .breaks) e;
-      sends = ap (λ v. v .echo .orders .sends) e;
-      waiting = keys .1;
-      count = keys .0;
-      gathered = bytes .1;
-      filled = bytes .0;
-    } in
-    record { cells = cells; same = same-struct p q cells }
-
-pub count-is-waiting : CountIsWaiting
-count-is-waiting p s c = sym (used unpacked waitRoom (p .echo .waiting) (p .echo .count) (s .waiting) (c .echo .waiting))
-
 -- cells that each have the number of their key
 numbered-map : (l : List ℕ) → ((i : ℕ) → packed (unpacked (getD l i 0)) ≡ getD l i 0) → map (λ n. packed (unpacked n)) l ≡ l
 numbered-map [] h = refl
 numbered-map (x ∷ l) h = ap₂ (λ (a : ℕ) (as′ : List ℕ). a ∷ as′) (h zero) (numbered-map l (λ i. h (suc i)))
 
+pub count-is-waiting : CountIsWaiting
+count-is-waiting p s c = sym (used unpacked waitRoom (p .echo .waiting) (p .echo .count) (s .waiting) (c .echo .waiting))
+
+same-echo : (a b : Echo) → length (a .waiting) ≡ waitRoom → length (b .waiting) ≡ waitRoom → length (a .gathered) ≡ gatherRoom → length (b .gathered) ≡ gatherRoom
+    → CleanEcho a → CleanEcho b → viewEcho a ≡ viewEcho b → a ≡ b
+same-echo a b wa wb ga gb ca cb e =
+    let keys = same-read unpacked waitRoom (a .waiting) (b .waiting) (a .count) (b .count) wa wb (ca .waiting) (cb .waiting) (ap (λ v. v .waiting) e) in
+    let bytes = same-array gatherRoom (a .gathered) (b .gathered) (a .filled) (b .filled) ga gb (ca .gathered) (cb .gathered) (ap (λ v. v .gathered) e) in
+    let waiting = same-packed (a .waiting) (b .waiting) (keys .1) (numbered-map (a .waiting) (ca .numbers)) (numbered-map (b .waiting) (cb .numbers)) in
+    let held = ap (λ v. v .held) e in
+    let action = ap (λ v. v .orders .action) e in
+    let breaks = ap (λ v. v .orders .breaks) e in
+    let sends = ap (λ v. v .orders .sends) e in
+    λ i. record {
+      held = held i;
+      action = action i;
+      breaks = breaks i;
+      sends = sends i;
+      waiting = waiting i;
+      count = keys .0 i;
+      gathered = bytes .1 i;
+      filled = bytes .0 i;
+    }
+
 pub determined-to-the-byte : DeterminedToTheByte
 determined-to-the-byte p q sp sq cp cq e =
-    determined p q sp sq cp cq e .same (numbered-map (p .echo .waiting) (cp .echo .numbers)) (numbered-map (q .echo .waiting) (cq .echo .numbers))
+    let sides = ap (λ v. v .sides) e in
+    let reader = same-reader (p .reader) (q .reader) (sp .body) (sq .body) (cp .reader) (cq .reader) (ap (λ v. v .reader) e) in
+    let table = clean-determined (p .table) (q .table) (sp .cells) (sq .cells) (cp .table) (cq .table) (ap (λ v. v .table) e) in
+    let echo = same-echo (p .echo) (q .echo) (sp .waiting) (sq .waiting) (sp .gathered) (sq .gathered) (cp .echo) (cq .echo) (ap (λ v. v .echo) e) in
+    let values = ap (λ v. v .values) e in
+    λ i. record { sides = sides i; reader = reader i; table = table i; echo = echo i; values = values i }

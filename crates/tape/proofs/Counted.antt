@@ -41,7 +41,7 @@ unfolding fieldsRun
 past-end zero tape at field r h = refl
 past-end (suc n) tape at field r h = rw (at-end tape at h)
 
-enough : (n more : ℕ) (tape : List ℕ) (at field : ℕ) (r : Run) → length tape ≤ at + n → fieldsRun (n + more) tape at field r ≡ fieldsRun n tape at field r
+pub enough : (n more : ℕ) (tape : List ℕ) (at field : ℕ) (r : Run) → length tape ≤ at + n → fieldsRun (n + more) tape at field r ≡ fieldsRun n tape at field r
 unfolding fieldsRun
 enough zero more tape at field r h = rw (zero-add more) (past-end more tape at field r (omega arith))
 enough (suc n) more tape at field r h =

@@ -4,3 +4,7 @@ pub mod LineParts
 pub mod Bounds
 pub mod Lending
 pub mod Counted
+pub mod Calling
+pub mod Steps
+pub mod Machines
+pub mod Runs

@@ -1,0 +1,233 @@
+-- A step prints what comes next of what remains, and something less is ahead after it.
+use mathlib.Core.Path.{_≡_, refl, sym, ap, _∙_}
+use mathlib.Core.Bool.{Bool, true, false, _&&_, _||_, false≢true}
+use mathlib.Core.List.{List, [], _∷_, _++_, append-assoc, append-nil, map}
+use Prim.Native.Nat.{ℕ, zero, suc, _+_, _-_, _≤_, _<_}
+use native.Mathlib.Numerals.{add-one}
+use native.Mathlib.Omega.{arith}
+use borrow.Author.Tests.{ltb-true, ltb-false, leb-true, leb-false, le-ltb}
+use lib.Dec.{ltb, leb, eqb}
+use lib.ListN.{length, take, drop, getD, length-take, length-drop}
+use lib.Seq.{take-nil, drop-drop}
+use Rattle.lists.specs.Choice.{pick}
+use Rattle.lists.proofs.Lengths.{chosen, either}
+use Rattle.lists.proofs.Tables.{both-left, both-right}
+use Rattle.tape.specs.declared.Found.{Found}
+use Rattle.tape.specs.declared.Found.the-variants.{Field, End, Bad}
+use Rattle.tape.specs.declared.Place.{Place}
+use Rattle.tape.specs.Fields.{Item, networkByte, keyPair, askPair, headSize, tagAt, sizeAt, isKnown, isWhole, foundAt, partOf, pairs, itemsOf}
+use Rattle.tape.specs.Lines.{answerLine, badTape}
+use Rattle.tape.specs.Running.{Run, begun, lentFor, itemAnswer, afterItem, itemsRun, fieldRun, fieldsRun, tapeRoom, printed}
+use Rattle.tape.specs.Steps.{width, itemOf, At, isOver, restAt, goingOn, remaining, Going, pastItem, itemStep, fieldStep, goingStep, goes, stepped, start, inFront, StartPrints, StepPrints, ahead, StepFalls}
+use Rattle.tape.proofs.Counted.{enough}
+
+-- a place where a run is not over
+pub record Stands (p : Place) : Type 0 where
+  pub going : p .over ≡ false
+  pub field : p .field ≤ p .next
+  pub item : p .item ≤ p .at
+
+pub stands : (p : Place) → isOver p ≡ false → Stands p
+unfolding isOver
+stands p e = go (p .over) (ltb (p .next) (p .field)) (ltb (p .at) (p .item)) refl refl refl e
+  where
+    go : (a b c : Bool) → p .over ≡ a → ltb (p .next) (p .field) ≡ b → ltb (p .at) (p .item) ≡ c → (a || (b || c)) ≡ false → Stands p
+    go true b c f g h e = absurd (false≢true (sym e))
+    go false true c f g h e = absurd (false≢true (sym e))
+    go false false true f g h e = absurd (false≢true (sym e))
+    go false false false f g h e = record { going = f; field = ltb-false (p .next) (p .field) g; item = ltb-false (p .at) (p .item) h }
+
+pub not-over : (p : Place) → Stands p → isOver p ≡ false
+unfolding isOver
+not-over p s = rw (s .going, le-ltb (p .next) (p .field) (s .field), le-ltb (p .at) (p .item) (s .item))
+
+-- where a field that is found stands
+pub record Lies (tape : List ℕ) (at start size next : ℕ) : Type 0 where
+  pub begins : start ≡ at + headSize
+  pub ends : next ≡ start + size
+  pub inside : next ≤ length tape
+
+abbrev pub Inside : List ℕ → ℕ → Found → Type 0
+Inside tape at End = Unit {0}
+Inside tape at Bad = at < length tape
+Inside tape at (Field tag start size cursor) = Lies tape at start size (cursor .at)
+
+pub found-inside : (tape : List ℕ) (at : ℕ) → Inside tape at (foundAt tape at)
+unfolding foundAt
+found-inside tape at =
+    chosen (Inside tape at) (leb (length tape) at) (λ e. tt)
+    (λ e.
+    let inside = leb-false (length tape) at e in
+    chosen (Inside tape at) (isWhole tape at && isKnown (tagAt tape at) (sizeAt tape at))
+    (λ w.
+    let whole = both-left (isWhole tape at) (isKnown (tagAt tape at) (sizeAt tape at)) w in
+    let head = leb-true (at + headSize) (length tape) (both-left (leb (at + headSize) (length tape)) (leb (sizeAt tape at) (length tape - (at + headSize))) whole) in
+    let body = leb-true (sizeAt tape at) (length tape - (at + headSize)) (both-right (leb (at + headSize) (length tape)) (leb (sizeAt tape at) (length tape - (at + headSize))) whole) in
+    record { begins = refl; ends = refl; inside = omega arith })
+    (λ _. inside))
+
+-- no field is left out, so that the count is the same for every field
+pub later : (tape : List ℕ) (at field : ℕ) (r : Run)
+    → fieldsRun (length tape) tape at field r ≡ fieldRun tape field r (foundAt tape at) (λ next r′. fieldsRun (length tape) tape next (field + 1) r′)
+unfolding fieldsRun
+later tape at field r = sym (enough (length tape) 1 tape at field r (omega arith)) ∙ (rw (add-one (length tape)))
+
+-- the first item of a body, and what is left behind it
+pairs-next : (f : ℕ → ℕ → Item) (body : List ℕ) → 2 ≤ length body → pairs f body ≡ f (getD body 0 0) (getD body 1 0) ∷ pairs f (drop 2 body)
+unfolding pairs
+pairs-next f [] h = absurd (omega arith)
+pairs-next f (a ∷ []) h = absurd (omega arith)
+pairs-next f (a ∷ b ∷ body) h = refl
+
+bytes-next : (body : List ℕ) → 1 ≤ length body → map networkByte body ≡ networkByte (getD body 0 0) ∷ map networkByte (drop 1 body)
+bytes-next [] h = absurd (omega arith)
+bytes-next (a ∷ body) h = refl
+
+pairs-none : (f : ℕ → ℕ → Item) (body : List ℕ) → length body < 2 → pairs f body ≡ []
+unfolding pairs
+pairs-none f [] h = refl
+pairs-none f (a ∷ []) h = refl
+pairs-none f (a ∷ b ∷ body) h = absurd (omega arith)
+
+bytes-none : (body : List ℕ) → length body < 1 → map networkByte body ≡ []
+bytes-none [] h = refl
+bytes-none (a ∷ body) h = absurd (omega arith)
+
+items-none : (tag : ℕ) (body : List ℕ) → length body < width tag → itemsOf tag body ≡ []
+unfolding itemsOf
+items-none tag body h = go (eqb tag 1) (eqb tag 2) h
+  where
+    go : (a b : Bool) → length body < pick a 1 2 → pick a (map networkByte body) (pick b (pairs keyPair body) (pairs askPair body)) ≡ []
+    go true b h = bytes-none body h
+    go false true h = pairs-none keyPair body h
+    go false false h = pairs-none askPair body h
+
+items-next : (tag : ℕ) (body : List ℕ) → width tag ≤ length body
+    → itemsOf tag body ≡ itemOf tag (getD body 0 0) (getD body 1 0) ∷ itemsOf tag (drop (width tag) body)
+unfolding itemsOf itemOf
+items-next tag body h = go (eqb tag 1) (eqb tag 2) h
+  where
+    go : (a b : Bool) → pick a 1 2 ≤ length body
+        → pick a (map networkByte body) (pick b (pairs keyPair body) (pairs askPair body))
+        ≡ pick a (networkByte (getD body 0 0)) (pick b (keyPair (getD body 0 0) (getD body 1 0)) (askPair (getD body 0 0) (getD body 1 0)))
+        ∷ pick a (map networkByte (drop (pick a 1 2) body)) (pick b (pairs keyPair (drop (pick a 1 2) body)) (pairs askPair (drop (pick a 1 2) body)))
+    go true b h = bytes-next body h
+    go false true h = pairs-next keyPair body h
+    go false false h = pairs-next askPair body h
+
+pub some-width : (tag : ℕ) → 1 ≤ width tag
+some-width tag = either (λ (n : ℕ). 1 ≤ n) (eqb tag 1) (omega arith) (omega arith)
+
+drop-take : (k n : ℕ) (l : List ℕ) → drop k (take n l) ≡ take (n - k) (drop k l)
+drop-take zero n l =
+    let same : n - 0 ≡ n = omega arith in
+    rw same
+drop-take (suc k) zero l =
+    let none : 0 - suc k ≡ 0 = omega arith in
+    rw none
+drop-take (suc k) (suc n) [] = sym (take-nil {A = ℕ} (suc n - suc k))
+drop-take (suc k) (suc n) (x ∷ l) =
+    let less : suc n - suc k ≡ n - k = omega arith in
+    rw less (drop-take k n l)
+
+part-next : (tape : List ℕ) (at left k : ℕ) → drop k (partOf tape at left) ≡ partOf tape (at + k) (left - k)
+unfolding partOf
+part-next tape at left k = rw (drop-take k left (drop at tape), drop-drop k at tape)
+
+pub part-long : (tape : List ℕ) (at left k : ℕ) → 1 ≤ k → k ≤ length (partOf tape at left) → (k ≤ left) × (at + k ≤ length tape)
+unfolding partOf
+part-long tape at left k some h =
+    let l = simp (length-take, length-drop) at h in
+    (omega arith, omega arith)
+
+-- the run goes on in the field, or behind it
+module _ (tape : List ℕ) (a : At) where
+  from-found : (f : Found) → Inside tape (a .place .next) f → Stands (a .place)
+      → fieldRun tape (a .place .field + 1) (a .run) f (λ next r′. fieldsRun (length tape) tape next (a .place .field + 1 + 1) r′)
+      ≡ fieldStep a f .lines ++ remaining tape (fieldStep a f .at)
+  unfolding remaining isOver
+  from-found End i s = refl
+  from-found Bad i s = sym (append-nil (badTape (a .place .field + 1)))
+  from-found (Field tag begin size cursor) i s =
+      let p : Place = record { field = a .place .field + 1; item = 1; tag = tag; at = begin; left = size; next = cursor .at; over = false } in
+      rw (not-over p (record { going = refl; field = omega (arith, i .begins, i .ends, s .field); item = omega (arith, i .begins) }))
+
+  from-field : Stands (a .place) → length (restAt tape (a .place)) < width (a .place .tag)
+      → goingOn tape a ≡ fieldStep a (foundAt tape (a .place .next)) .lines ++ remaining tape (fieldStep a (foundAt tape (a .place .next)) .at)
+  unfolding itemsRun
+  from-field s h =
+      rw (items-none (a .place .tag) (restAt tape (a .place)) h)
+      (later tape (a .place .next) (a .place .field + 1) (a .run) ∙ from-found (foundAt tape (a .place .next)) (found-inside tape (a .place .next)) s)
+
+  past-stands : Stands (a .place) → Stands (pastItem (a .place))
+  past-stands s = record { going = refl; field = s .field; item = omega (arith, s .item, some-width (a .place .tag)) }
+
+  from-item : Stands (a .place) → width (a .place .tag) ≤ length (restAt tape (a .place))
+      → (let i = itemOf (a .place .tag) (getD (restAt tape (a .place)) 0 0) (getD (restAt tape (a .place)) 1 0) in
+      goingOn tape a ≡ itemStep a (pastItem (a .place)) i .lines ++ remaining tape (itemStep a (pastItem (a .place)) i .at))
+  unfolding itemsRun remaining
+  from-item s h =
+      let p = a .place in
+      let i = itemOf (p .tag) (getD (restAt tape p) 0 0) (getD (restAt tape p) 1 0) in
+      let lent = lentFor (a .run) in
+      let answer = itemAnswer lent i in
+      let ran = itemsRun (p .field) (p .item + 1) (afterItem lent answer) (itemsOf (p .tag) (restAt tape (pastItem p))) in
+      rw (items-next (a .place .tag) (restAt tape (a .place)) h, part-next tape (a .place .at) (a .place .left) (width (a .place .tag)), not-over (pastItem (a .place)) (past-stands s))
+      (append-assoc (answerLine (p .field) (p .item) answer) (ran .lines) (fieldsRun (length tape) tape (p .next) (p .field + 1) (ran .run)))
+
+  goes-on : Stands (a .place) → goingOn tape a ≡ goingStep tape a .lines ++ remaining tape (goingStep tape a .at)
+  unfolding goingStep
+  goes-on s =
+      chosen (λ (g : Going). goingOn tape a ≡ g .lines ++ remaining tape (g .at)) (ltb (length (restAt tape (a .place))) (width (a .place .tag)))
+      (λ e. from-field s (ltb-true (length (restAt tape (a .place))) (width (a .place .tag)) e))
+      (λ e. from-item s (ltb-false (length (restAt tape (a .place))) (width (a .place .tag)) e))
+
+pub step-prints : StepPrints
+unfolding remaining stepped
+step-prints tape a = go (isOver (a .place)) refl
+  where
+    go : (b : Bool) → isOver (a .place) ≡ b
+        → pick b [] (goingOn tape a)
+        ≡ pick b (goes [] (a .run) (a .place)) (goingStep tape a) .lines ++ remaining tape (pick b (goes [] (a .run) (a .place)) (goingStep tape a) .at)
+    go true e = rw e
+    go false e = goes-on tape a (stands (a .place) e)
+
+-- what is ahead falls
+module _ (tape : List ℕ) (a : At) (s : Stands (a .place)) where
+  here : ahead tape (a .place) ≡ 1 + (length tape - a .place .next) + a .place .left
+  unfolding ahead
+  here = rw (not-over (a .place) s)
+
+  found-falls : (f : Found) → Inside tape (a .place .next) f → ahead tape (fieldStep a f .at .place) < ahead tape (a .place)
+  unfolding ahead isOver
+  found-falls End i = rw here (omega arith)
+  found-falls Bad i = rw here (omega arith)
+  found-falls (Field tag begin size cursor) i =
+      let p : Place = record { field = a .place .field + 1; item = 1; tag = tag; at = begin; left = size; next = cursor .at; over = false } in
+      rw (here, not-over p (record { going = refl; field = omega (arith, i .begins, i .ends, s .field); item = omega (arith, i .begins) }))
+      (omega (arith, i .begins, i .ends, i .inside))
+
+  item-falls : width (a .place .tag) ≤ length (restAt tape (a .place)) → ahead tape (pastItem (a .place)) < ahead tape (a .place)
+  unfolding ahead
+  item-falls h =
+      rw (here, not-over (pastItem (a .place)) (past-stands tape a s))
+      (omega (arith, some-width (a .place .tag), part-long tape (a .place .at) (a .place .left) (width (a .place .tag)) (some-width (a .place .tag)) h .0))
+
+pub step-falls : StepFalls
+unfolding stepped goingStep
+step-falls tape a e =
+    let s = stands (a .place) e in
+    let rest = restAt tape (a .place) in
+    rw e
+    (chosen (λ (g : Going). ahead tape (g .at .place) < ahead tape (a .place)) (ltb (length rest) (width (a .place .tag)))
+    (λ _. found-falls tape a s (foundAt tape (a .place .next)) (found-inside tape (a .place .next)))
+    (λ f. item-falls tape a s (ltb-false (length rest) (width (a .place .tag)) f)))
+
+pub start-prints : StartPrints
+unfolding start printed remaining isOver itemsRun itemsOf partOf
+start-prints tape = go (ltb tapeRoom (length tape))
+  where
+    go : (b : Bool) → pick b (badTape 0) (fieldsRun (length tape) tape 0 1 begun)
+        ≡ pick b (badTape 0) [] ++ remaining tape (record { run = begun; place = inFront b })
+    go true = sym (append-nil (badTape 0))
+    go false = refl

@@ -1,0 +1,99 @@
+// The items of a field: each is a call on the printer end, with a line of its own.
+ghost use mathlib.Core.Path.{_≡_};
+ghost use lib.ListN.{length};
+ghost use Rattle.lists.specs.Buffers.{RoomFor};
+ghost use Rattle.printer.specs.Kept.{viewPrinter, MetAnswer};
+ghost use Rattle.tape.specs.Lines.{answerLine};
+ghost use Rattle.tape.specs.Running.{pairCall, itemCall};
+ghost use Rattle.tape.specs.Steps.{pairOf, itemOf};
+ghost use Rattle.tape.specs.Kept.{MetItem};
+use super::Pair;
+use super::Shown;
+use super::lines;
+use codes::Code;
+use codes::Note;
+use keys::Key;
+use printer::Answer;
+use printer::Printer;
+use printer::calls;
+
+// (0, byte), (1, 0), (2, code).
+fn key_of(kind: u8, v: u8) -> Pair
+    ensures { λ r. ⌜ r ≡ pairOf kind v ⌝ }
+{
+    match kind {
+        0 => Pair::Typed(Key::Char(v)),
+        1 => {
+            if v == 0 {
+                Pair::Typed(Key::Line)
+            } else {
+                Pair::Other
+            }
+        }
+        2 => Pair::Typed(Key::Command(v)),
+        _ => Pair::Other,
+    }
+}
+
+// A key pair. One that stands for no key is code 3 and never comes to the printer end.
+fn press_pair(s: Printer, kind: u8, v: u8, paper: &mut [u8], wire: &mut [u8]) -> Answer
+    ensures { λ r. ⌜ MetAnswer (pairCall (viewPrinter s) kind v (length (now (paper .entry))) (length (now (wire .entry)))) s (now (paper .entry)) (now (paper .exit)) (now (wire .entry)) (now (wire .exit)) r ⌝ }
+{
+    let pair = key_of(kind, v);
+    let Pair::Typed(key) = pair else {
+        return Answer {
+            code: Code::BadCommand,
+            note: Note::Clear,
+            paper: 0,
+            wire: 0,
+            state: s,
+        };
+    };
+    calls::press(s, key, paper, wire)
+}
+
+// An item by its field's tag: a network byte is the first of the two bytes.
+fn call_item(s: Printer, tag: u8, a: u8, b: u8, paper: &mut [u8], wire: &mut [u8]) -> Answer
+    ensures { λ r. ⌜ MetAnswer (itemCall (viewPrinter s) (itemOf tag a b) (length (now (paper .entry))) (length (now (wire .entry)))) s (now (paper .entry)) (now (paper .exit)) (now (wire .entry)) (now (wire .exit)) r ⌝ }
+{
+    match tag {
+        1 => calls::network_byte(s, a, paper, wire),
+        2 => press_pair(s, a, b, paper, wire),
+        _ => calls::ask(s, a, b, paper, wire),
+    }
+}
+
+// An item and its line.
+pub fn put_item(
+    s: Printer,
+    field: usize,
+    item: usize,
+    tag: u8,
+    a: u8,
+    b: u8,
+    paper: &mut [u8],
+    wire: &mut [u8],
+    out: &mut [u8],
+) -> Shown
+    requires { ⌜ RoomFor (answerLine field item (itemCall (viewPrinter s) (itemOf tag a b) (length (now paper)) (length (now wire)))) (now out) ⌝ }
+    ensures { λ r. ⌜ MetItem (itemCall (viewPrinter s) (itemOf tag a b) (length (now (paper .entry))) (length (now (wire .entry)))) (answerLine field item (itemCall (viewPrinter s) (itemOf tag a b) (length (now (paper .entry))) (length (now (wire .entry))))) s (now (out .entry)) (now (out .exit)) r ⌝ }
+{
+    let answer = call_item(s, tag, a, b, paper, wire);
+    let code = answer.code;
+    let number = codes::code_number(code);
+    let state = answer.state;
+    let written = lines::put_shown(
+        field,
+        item,
+        number,
+        &paper[..answer.paper],
+        &wire[..answer.wire],
+        out,
+    );
+    Shown {
+        written,
+        paper: answer.paper,
+        wire: answer.wire,
+        state,
+    }
+}

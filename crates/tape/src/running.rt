@@ -1,0 +1,256 @@
+// Running a tape: one step looks up the next field, or does one item.
+ghost use mathlib.Core.Path.{_≡_};
+ghost use Prim.Native.Nat.{_+_, _-_, _≤_, _<_};
+ghost use mathlib.Core.Bool.{false};
+ghost use lib.Dec.{ltb};
+ghost use lib.ListN.{length, getD};
+ghost use Rattle.lists.specs.Choice.{pick};
+ghost use Rattle.printer.specs.Kept.{CleanPrinter};
+ghost use Rattle.tape.specs.Running.{lentPaper, lentWire};
+ghost use Rattle.tape.specs.Whole.{lineRoom};
+ghost use Rattle.tape.specs.Fields.{foundAt};
+ghost use Rattle.tape.specs.Steps.{width, itemOf, isOver, restAt, ended, pastItem, itemStep, fieldStep, goingStep, stepped, start, inFront, remaining};
+ghost use Rattle.tape.specs.Kept.{viewMachine, MetGoing, MetStart, MetRun};
+use super::Cursor;
+use super::Found;
+use super::Machine;
+use super::Place;
+use super::Stepped;
+use super::fields;
+use super::items;
+use super::lines;
+use printer::calls;
+
+// The sizes of the buffers that are lent.
+pub const PAPER: usize = 4096;
+
+pub const WIRE: usize = 8192;
+
+// A longer tape is not read.
+const TAPE: usize = 65536;
+
+// The most that a line can be.
+const LINE: usize = 6164;
+
+// Whether nothing is left to run.
+pub fn is_over(p: Place) -> bool
+    ensures { λ r. ⌜ r ≡ isOver p ⌝ }
+{
+    if p.over {
+        return true;
+    }
+    if p.next < p.field {
+        return true;
+    }
+    p.at < p.item
+}
+
+fn width(tag: u8) -> usize
+    ensures { λ r. ⌜ r ≡ width tag ⌝ }
+{
+    match tag {
+        1 => 1,
+        _ => 2,
+    }
+}
+
+// How much of a buffer is used before the next item: none, where it is lent afresh.
+fn used_for(used: usize, size: usize, room: usize) -> usize
+    requires { ⌜ (1 ≤ room) × (room ≤ size) ⌝ }
+    ensures { λ r. ⌜ (size - r ≡ pick (ltb (size - used) room) size (size - used)) × (r + room ≤ size) ⌝ }
+{
+    if used <= size - room { used } else { 0 }
+}
+
+// The byte behind the first, if there is one.
+fn second(bytes: &[u8]) -> u8
+    ensures { λ r. ⌜ r ≡ getD (now (bytes .entry)) 1 0 ⌝ }
+{
+    if bytes.len() < 2 { 0 } else { bytes[1] }
+}
+
+fn stopped(m: Machine) -> Machine
+    ensures { λ r. ⌜ r ≡ record { printer = m .printer; paper = m .paper; wire = m .wire; place = ended (m .place) } ⌝ }
+{
+    let mut place = m.place;
+    place.over = true;
+    let mut r = m;
+    r.place = place;
+    r
+}
+
+// The place behind an item.
+fn past_item(tape: &[u8], p: Place) -> Place
+    requires { ⌜ p .item ≤ p .at ⌝ }
+    requires { ⌜ p .at + width (p .tag) ≤ length (now tape) ⌝ }
+    requires { ⌜ width (p .tag) ≤ p .left ⌝ }
+    ensures { λ r. ⌜ r ≡ pastItem p ⌝ }
+{
+    let n = width(p.tag);
+    Place {
+        field: p.field,
+        item: p.item + 1,
+        tag: p.tag,
+        at: p.at + n,
+        left: p.left - n,
+        next: p.next,
+        over: false,
+    }
+}
+
+// One item: its buffers are the unused tails of the lent ones.
+fn one_item(
+    m: Machine,
+    after: Place,
+    a: u8,
+    b: u8,
+    paper: &mut [u8],
+    wire: &mut [u8],
+    out: &mut [u8],
+) -> Stepped
+    requires { ⌜ length (now paper) ≡ lentPaper ⌝ }
+    requires { ⌜ length (now wire) ≡ lentWire ⌝ }
+    requires { ⌜ lineRoom ≤ length (now out) ⌝ }
+    ensures { λ r. ⌜ MetGoing (itemStep (viewMachine m) after (itemOf (m .place .tag) a b)) m (now (out .entry)) (now (out .exit)) r ⌝ }
+{
+    let place = m.place;
+    let printer = m.printer;
+    let p = used_for(m.paper, PAPER, 1024);
+    let w = used_for(m.wire, WIRE, 2048);
+    let shown = items::put_item(
+        printer,
+        place.field,
+        place.item,
+        place.tag,
+        a,
+        b,
+        &mut paper[p..],
+        &mut wire[w..],
+        out,
+    );
+    let state = shown.state;
+    let machine = Machine {
+        printer: state,
+        paper: p + shown.paper,
+        wire: w + shown.wire,
+        place: after,
+    };
+    Stepped {
+        written: shown.written,
+        machine,
+    }
+}
+
+// The next field, the end, or a bad field, which is the last thing printed.
+fn next_field(tape: &[u8], m: Machine, out: &mut [u8]) -> Stepped
+    requires { ⌜ m .place .field ≤ m .place .next ⌝ }
+    requires { ⌜ lineRoom ≤ length (now out) ⌝ }
+    ensures { λ r. ⌜ MetGoing (fieldStep (viewMachine m) (foundAt (now (tape .entry)) (m .place .next))) m (now (out .entry)) (now (out .exit)) r ⌝ }
+{
+    let place = m.place;
+    let found = fields::found_at(tape, Cursor { at: place.next });
+    match found {
+        Found::End => Stepped {
+            written: 0,
+            machine: stopped(m),
+        },
+        Found::Bad => {
+            let written = lines::put_bad(place.field + 1, out);
+            Stepped {
+                written,
+                machine: stopped(m),
+            }
+        }
+        Found::Field {
+            tag,
+            start,
+            size,
+            next,
+        } => {
+            let first = Place {
+                field: place.field + 1,
+                item: 1,
+                tag,
+                at: start,
+                left: size,
+                next: next.at,
+                over: false,
+            };
+            let mut machine = m;
+            machine.place = first;
+            Stepped {
+                written: 0,
+                machine,
+            }
+        }
+    }
+}
+
+// One step.
+pub fn step(tape: &[u8], m: Machine, paper: &mut [u8], wire: &mut [u8], out: &mut [u8]) -> Stepped
+    requires { ⌜ length (now paper) ≡ lentPaper ⌝ }
+    requires { ⌜ length (now wire) ≡ lentWire ⌝ }
+    requires { ⌜ lineRoom ≤ length (now out) ⌝ }
+    ensures { λ r. ⌜ MetGoing (stepped (now (tape .entry)) (viewMachine m)) m (now (out .entry)) (now (out .exit)) r ⌝ }
+{
+    let place = m.place;
+    if is_over(place) {
+        return Stepped {
+            written: 0,
+            machine: m,
+        };
+    }
+    let rest = fields::body_of(tape, place.at, place.left);
+    if rest.len() < width(place.tag) {
+        return next_field(tape, m, out);
+    }
+    let a = rest[0];
+    let b = second(rest);
+    let after = past_item(tape, place);
+    one_item(m, after, a, b, paper, wire, out)
+}
+
+// The start of a run: a tape that is too long is bad as a whole.
+pub fn begin(tape: &[u8], out: &mut [u8]) -> Stepped
+    requires { ⌜ lineRoom ≤ length (now out) ⌝ }
+    ensures { λ r. ⌜ MetStart (now (tape .entry)) (now (out .entry)) (now (out .exit)) r ⌝ }
+{
+    let machine = Machine {
+        printer: calls::fresh(),
+        paper: 0,
+        wire: 0,
+        place: Place {
+            field: 0,
+            item: 0,
+            tag: 1,
+            at: 0,
+            left: 0,
+            next: 0,
+            over: TAPE < tape.len(),
+        },
+    };
+    if machine.place.over {
+        let written = lines::put_bad(0, out);
+        return Stepped { written, machine };
+    }
+    Stepped {
+        written: 0,
+        machine,
+    }
+}
+
+// Steps while a line surely fits and the run is not over.
+pub fn run(tape: &[u8], m: Machine, paper: &mut [u8], wire: &mut [u8], out: &mut [u8]) -> Stepped
+    requires { ⌜ length (now paper) ≡ lentPaper ⌝ }
+    requires { ⌜ length (now wire) ≡ lentWire ⌝ }
+    ensures { λ r. ⌜ MetRun (now (tape .entry)) m (now (out .entry)) (now (out .exit)) r ⌝ }
+{
+    let mut machine = m;
+    let mut written: usize = 0;
+    while !is_over(machine.place) && LINE <= out.len() - written {
+        let s = step(tape, machine, paper, wire, &mut out[written..]);
+        machine = s.machine;
+        written += s.written;
+    }
+    Stepped { written, machine }
+}
