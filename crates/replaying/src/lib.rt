@@ -3,7 +3,6 @@ ghost use mathlib.Core.Path.{_≡_};
 ghost use mathlib.Core.Bool.{false};
 ghost use Prim.Native.Nat.{_≤_, _<_};
 ghost use lib.ListN.{length};
-ghost use Rattle.tape.specs.Running.{lentPaper, lentWire};
 ghost use Rattle.tape.specs.Whole.{lineRoom};
 ghost use Rattle.tape.specs.Steps.{isOver, ahead};
 use libc::STDOUT_FILENO;
@@ -11,36 +10,28 @@ use tape::Machine;
 use tape::running;
 
 // The lines that fit the output buffer once, and the run after them.
-fn print_some(tape: &[u8], m: Machine, paper: &mut [u8], wire: &mut [u8], out: &mut [u8]) -> Machine
-    requires { ⌜ length (now paper) ≡ lentPaper ⌝ }
-    requires { ⌜ length (now wire) ≡ lentWire ⌝ }
+fn print_some(tape: &[u8], m: Machine, out: &mut [u8]) -> Machine
     requires { ⌜ lineRoom ≤ length (now out) ⌝ }
     ensures { λ r. ⌜ (isOver (m .place) ≡ false → ahead (now (tape .entry)) (r .place) < ahead (now (tape .entry)) (m .place)) ⌝ }
 {
-    let s = running::run(tape, m, paper, wire, out);
+    let s = running::run(tape, m, out);
     io::write_all(STDOUT_FILENO, &out[..s.written]);
     let machine = s.machine;
     machine
 }
 
 // All lines.
-fn print_all(tape: &[u8], paper: &mut [u8], wire: &mut [u8], out: &mut [u8])
-    requires { ⌜ length (now paper) ≡ lentPaper ⌝ }
-    requires { ⌜ length (now wire) ≡ lentWire ⌝ }
+fn print_all(tape: &[u8], out: &mut [u8])
     requires { ⌜ lineRoom ≤ length (now out) ⌝ }
 {
-    let first = running::begin(tape, out);
-    io::write_all(STDOUT_FILENO, &out[..first.written]);
-    let mut machine = first.machine;
+    let mut machine = running::begin();
     while !running::is_over(machine.place) {
-        machine = print_some(tape, machine, paper, wire, out);
+        machine = print_some(tape, machine, out);
     }
 }
 
-// The buffers that a run is lent are this function's own.
+// The output buffer is this function's own.
 pub fn print_tape(tape: &[u8]) {
-    let mut paper = [0u8; 4096];
-    let mut wire = [0u8; 8192];
     let mut out = [0u8; 16384];
-    print_all(tape, &mut paper, &mut wire, &mut out);
+    print_all(tape, &mut out);
 }

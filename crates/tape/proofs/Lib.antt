@@ -6,5 +6,7 @@ pub mod Lending
 pub mod Counted
 pub mod Calling
 pub mod Steps
+pub mod ManySteps
+pub mod Numbers
 pub mod Machines
 pub mod Runs

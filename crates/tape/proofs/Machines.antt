@@ -1,6 +1,6 @@
 -- How the machine's steps meet the rules.
 use mathlib.Core.Path.{_≡_, refl, sym}
-use mathlib.Core.Bool.{false}
+use mathlib.Core.Bool.{true, false}
 use mathlib.Core.List.{List}
 use Prim.Native.Nat.{ℕ, _+_, _-_, _≤_, _<_}
 use native.Mathlib.Omega.{arith}
@@ -17,9 +17,9 @@ use Rattle.tape.specs.declared.Machine.{Machine}
 use Rattle.tape.specs.declared.Place.{Place}
 use Rattle.tape.specs.declared.Shown.{Shown}
 use Rattle.tape.specs.Fields.{Item, foundAt}
-use Rattle.tape.specs.Lines.{answerLine}
+use Rattle.tape.specs.Lines.{answerLine, badTape}
 use Rattle.tape.specs.Running.{lentPaper, lentWire, lentFor, itemCall, itemAnswer}
-use Rattle.tape.specs.Steps.{width, itemOf, At, isOver, restAt, pastItem, itemStep, fieldStep, goingStep, stepped}
+use Rattle.tape.specs.Steps.{width, itemOf, At, isOver, isTooLong, restAt, ended, pastItem, goes, itemStep, fieldStep, goingStep, stepped}
 use Rattle.tape.specs.Kept.{viewMachine, MetItem, MetGoing}
 use Rattle.tape.specs.Whole.{lineRoom}
 use Rattle.tape.proofs.Calling.{line-room, item-fits}
@@ -44,17 +44,17 @@ module _ (m : Machine) (i : Item) (p w : ℕ)
   item-room field item out h =
       omega (arith, line-room (viewPrinter (m .printer)) (length (take (length held - p) (drop p held))) (length (take (length lay - w) (drop w lay))) (sized-view (m .printer)) field item i)
 
-  module _ (out out′ : List ℕ) (r : Shown)
+  module _ (held′ lay′ out out′ : List ℕ) (r : Shown)
       (met : MetItem (itemCall (viewPrinter (m .printer)) i (length (take (length held - p) (drop p held))) (length (take (length lay - w) (drop w lay))))
       (answerLine (m .place .field) (m .place .item) (itemCall (viewPrinter (m .printer)) i (length (take (length held - p) (drop p held))) (length (take (length lay - w) (drop w lay)))))
-      (m .printer) out out′ r) where
+      (m .printer) (take (length held - p) (drop p held)) held′ (take (length lay - w) (drop w lay)) lay′ out out′ r) where
     pub paper-fits : p + r .paper ≤ lentPaper
     paper-fits =
-        omega (arith, met .paper, item-fits (viewPrinter (m .printer)) (length (take (length held - p) (drop p held))) (length (take (length lay - w) (drop w lay))) (sized-view (m .printer)) i .paper)
+        omega (arith, met .paper .count, item-fits (viewPrinter (m .printer)) (length (take (length held - p) (drop p held))) (length (take (length lay - w) (drop w lay))) (sized-view (m .printer)) i .paper)
 
     pub wire-fits : w + r .wire ≤ lentWire
     wire-fits =
-        omega (arith, met .wire, item-fits (viewPrinter (m .printer)) (length (take (length held - p) (drop p held))) (length (take (length lay - w) (drop w lay))) (sized-view (m .printer)) i .wire)
+        omega (arith, met .wire .count, item-fits (viewPrinter (m .printer)) (length (take (length held - p) (drop p held))) (length (take (length lay - w) (drop w lay))) (sized-view (m .printer)) i .wire)
 
     same : itemCall (viewPrinter (m .printer)) i (length (take (length held - p) (drop p held))) (length (take (length lay - w) (drop w lay)))
         ≡ itemAnswer (lentFor (viewMachine m .run)) i
@@ -72,17 +72,21 @@ module _ (m : Machine) (i : Item) (p w : ℕ)
         let e = rw same at met in
         record {
           lines = e .line;
-          view = same-run after (e .view) (omega (arith, e .paper, unused .0)) (omega (arith, e .wire, unused .1));
+          view = same-run after (e .view) (omega (arith, e .paper .count, unused .0)) (omega (arith, e .wire .count, unused .1));
           clean = e .clean;
         }
 
 -- which way a step goes
-module _ (tape : List ℕ) (a : At) (going : isOver (a .place) ≡ false) where
+pub step-long : (tape : List ℕ) (a : At) → isOver (a .place) ≡ false → isTooLong tape (a .place) ≡ true → stepped tape a ≡ goes (badTape 0) (a .run) (ended (a .place))
+unfolding stepped
+step-long tape a going long = rw (going, long)
+
+module _ (tape : List ℕ) (a : At) (going : isOver (a .place) ≡ false) (short : isTooLong tape (a .place) ≡ false) where
   pub step-field : length (restAt tape (a .place)) < width (a .place .tag) → stepped tape a ≡ fieldStep a (foundAt tape (a .place .next))
   unfolding stepped goingStep
-  step-field h = rw (going, lt-ltb (length (restAt tape (a .place))) (width (a .place .tag)) h)
+  step-field h = rw (going, short, lt-ltb (length (restAt tape (a .place))) (width (a .place .tag)) h)
 
   pub step-item : width (a .place .tag) ≤ length (restAt tape (a .place))
       → stepped tape a ≡ itemStep a (pastItem (a .place)) (itemOf (a .place .tag) (getD (restAt tape (a .place)) 0 0) (getD (restAt tape (a .place)) 1 0))
   unfolding stepped goingStep
-  step-item h = rw (going, le-ltb (length (restAt tape (a .place))) (width (a .place .tag)) h)
+  step-item h = rw (going, short, le-ltb (length (restAt tape (a .place))) (width (a .place .tag)) h)

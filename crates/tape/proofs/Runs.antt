@@ -1,11 +1,11 @@
 -- Many steps, one behind the other.
 use mathlib.Core.Path.{_≡_, refl, sym, ap, _∙_}
-use mathlib.Core.Bool.{Bool, true, false}
-use mathlib.Core.Logic.{_⊎_, inl, inr, ⊎-elim}
-use mathlib.Core.List.{List, [], _∷_, _++_, append-assoc}
+use mathlib.Core.Bool.{Bool, true, false, not, _&&_}
+use mathlib.Core.List.{List, [], _∷_, _++_, append-assoc, append-nil}
 use Prim.Native.Nat.{ℕ, _+_, _-_, _≤_, _<_}
 use native.Mathlib.Omega.{arith}
-use lib.Dec.{ltb}
+use borrow.Author.Tests.{le-leb}
+use lib.Dec.{ltb, leb}
 use lib.ListN.{length, take, drop, getD, length-append, length-take, length-drop}
 use borrow.Rule.Slice.PartMut.{putMid}
 use Rattle.lists.specs.Buffers.{Wrote, RoomFor}
@@ -20,18 +20,27 @@ use Rattle.tape.specs.declared.Machine.{Machine}
 use Rattle.tape.specs.declared.Stepped.{Stepped}
 use Rattle.tape.specs.Fields.{foundAt}
 use Rattle.tape.specs.Running.{lentPaper, lentWire, lentFor, itemAnswer}
-use Rattle.tape.specs.Steps.{width, itemOf, At, Going, isOver, restAt, fieldStep, remaining, goingStep, stepped, ahead}
-use Rattle.tape.specs.Kept.{viewMachine, MetGoing, MetRun}
+use Rattle.tape.specs.Steps.{width, itemOf, At, Going, isOver, isTooLong, restAt, fieldStep, goingStep, stepped, ahead}
+use Rattle.tape.specs.ManySteps.{goesOn, behind, ranFor}
+use Rattle.tape.specs.Kept.{viewMachine, MetGoing}
 use Rattle.tape.specs.Whole.{lineRoom}
 use Rattle.tape.proofs.Bounds.{bad-fits}
 use Rattle.tape.proofs.Calling.{line-room}
-use Rattle.tape.proofs.Steps.{step-prints, step-falls}
+use Rattle.tape.proofs.Steps.{step-falls}
+use Rattle.tape.proofs.ManySteps.{ran-next, ran-stops}
 
 -- what a step prints is one line at most
 found-fits : (a : At) (f : Found) → length (fieldStep a f .lines) ≤ lineRoom
 found-fits a End = omega arith
 found-fits a Bad = bad-fits (a .place .field + 1)
 found-fits a (Field tag start size cursor) = omega arith
+
+either-way : (b : Bool) {c : Bool} → c ≡ false → b && c ≡ false
+either-way true e = e
+either-way false e = refl
+
+behind-both : (l m : List ℕ) (g : Going) → behind (l ++ m) g ≡ behind l (behind m g)
+behind-both l m g = rw (append-assoc l m (g .lines))
 
 pub step-fits : (tape : List ℕ) (m : Machine) → length (stepped tape (viewMachine m) .lines) ≤ lineRoom
 unfolding stepped goingStep itemAnswer lentFor
@@ -40,23 +49,24 @@ step-fits tape m =
     let rest = restAt tape (m .place) in
     let lent = lentFor (a .run) in
     either (λ (g : Going). length (g .lines) ≤ lineRoom) (isOver (m .place)) (omega arith)
+    (either (λ (g : Going). length (g .lines) ≤ lineRoom) (isTooLong tape (m .place)) (bad-fits 0)
     (either (λ (g : Going). length (g .lines) ≤ lineRoom) (ltb (length rest) (width (m .place .tag))) (found-fits a (foundAt tape (m .place .next)))
-    (line-room (viewPrinter (m .printer)) (lent .paper) (lent .wire) (sized-view (m .printer)) (m .place .field) (m .place .item) (itemOf (m .place .tag) (getD rest 0 0) (getD rest 1 0))))
+    (line-room (viewPrinter (m .printer)) (lent .paper) (lent .wire) (sized-view (m .printer)) (m .place .field) (m .place .item) (itemOf (m .place .tag) (getD rest 0 0) (getD rest 1 0)))))
 
--- what was printed, and what remains
+-- what was printed, and the run that is still to come
 pub record Runs (tape : List ℕ) (m₀ : Machine) (out₀ held lay out : List ℕ) (m : Machine) (n : ℕ) : Type 0 where
   pub paper : length held ≡ lentPaper
   pub wire : length lay ≡ lentWire
   pub printed : List ℕ
   pub wrote : Wrote printed out₀ out n
   pub room : RoomFor printed out₀
-  pub remains : remaining tape (viewMachine m₀) ≡ printed ++ remaining tape (viewMachine m)
+  pub goes : ranFor tape (viewMachine m₀) (length out₀) ≡ behind printed (ranFor tape (viewMachine m) (length out₀ - n))
   pub clean : CleanPrinter (m₀ .printer) → CleanPrinter (m .printer)
-  pub moved : ((m ≡ m₀) × (n ≡ 0)) ⊎ (ahead tape (m .place) < ahead tape (m₀ .place))
 
 pub no-steps : (tape : List ℕ) (m : Machine) (held lay out : List ℕ) → length held ≡ lentPaper → length lay ≡ lentWire → Runs tape m out held lay out m 0
 no-steps tape m held lay out h l =
-    record { paper = h; wire = l; printed = []; wrote = wrote-none out; room = omega arith; remains = refl; clean = λ k. k; moved = inl (refl, refl) }
+    let all : length out - 0 ≡ length out = omega arith in
+    record { paper = h; wire = l; printed = []; wrote = wrote-none out; room = omega arith; goes = rw all; clean = λ k. k }
 
 module _ (tape : List ℕ) (m₀ : Machine) (out₀ held lay out : List ℕ) (m : Machine) (n : ℕ) (runs : Runs tape m₀ out₀ held lay out m n) where
   pub still-long : length out ≡ length out₀
@@ -89,28 +99,34 @@ module _ (tape : List ℕ) (m₀ : Machine) (out₀ held lay out : List ℕ) (m 
           printed = runs .printed ++ lines;
           wrote = wrote-then (runs .wrote) (runs .room) lines last (r .written) (met .lines);
           room = simp length-append (omega (arith, runs .wrote .count, step-fits tape m, still-long));
-          remains = runs .remains ∙ go;
+          goes = runs .goes ∙ rest;
           clean = λ k. met .clean (runs .clean k);
-          moved = inr (⊎-elim (λ same. rw (ap (λ (x : Machine). x .place) (same .0)) at (falls going)) (λ less. omega (arith, less, falls going)) (runs .moved));
         }
       where
-        go : runs .printed ++ remaining tape (viewMachine m) ≡ (runs .printed ++ stepped tape (viewMachine m) .lines) ++ remaining tape (viewMachine (r .machine))
-        go =
-            rw (met .view, step-prints tape (viewMachine m))
-            (sym (append-assoc (runs .printed) (stepped tape (viewMachine m) .lines) (remaining tape (stepped tape (viewMachine m) .at))))
+        g : Going
+        g = stepped tape (viewMachine m)
 
-  -- the run stops
-  pub run-met : (isOver (m .place) ≡ false → length out₀ < n + lineRoom) → MetRun tape m₀ out₀ out (record { written = n; machine = m })
-  run-met stops = record {
-    printed = runs .printed;
-    wrote = runs .wrote;
-    remains = runs .remains;
-    stops = stops;
-    falls = λ going room.
-        ⊎-elim
-        (λ same.
-        let still : isOver (m .place) ≡ false = rw (same .0) going in
-        absurd (omega (arith, stops still, same .1, room)))
-        (λ less. less) (runs .moved);
-    clean = runs .clean;
-  }
+        on : goesOn (viewMachine m) (length out₀ - n) ≡ true
+        on = rw (going, le-leb lineRoom (length out₀ - n) (omega (arith, enough, still-long)))
+
+        left : length out₀ - n - length (g .lines) ≡ length out₀ - (n + r .written)
+        left = omega (arith, met .lines .count)
+
+        rest : behind (runs .printed) (ranFor tape (viewMachine m) (length out₀ - n))
+            ≡ behind (runs .printed ++ g .lines) (ranFor tape (viewMachine (r .machine)) (length out₀ - (n + r .written)))
+        rest =
+            rw (ran-next tape (viewMachine m) (length out₀ - n) on, left, met .view)
+            (sym (behind-both (runs .printed) (g .lines) (ranFor tape (g .at) (length out₀ - (n + r .written)))))
+
+  -- the run stops, as the next line might not fit or as it is over
+  pub short-stops : leb lineRoom (length out - n) ≡ false → goesOn (viewMachine m) (length out₀ - n) ≡ false
+  short-stops e =
+      let f : leb lineRoom (length out₀ - n) ≡ false = rw still-long at e in
+      either-way (not (isOver (m .place))) f
+
+  pub run-met : goesOn (viewMachine m) (length out₀ - n) ≡ false
+      → MetGoing (ranFor tape (viewMachine m₀) (length out₀)) m₀ out₀ out (record { written = n; machine = m })
+  run-met stops =
+      let all : ranFor tape (viewMachine m₀) (length out₀) ≡ record { lines = runs .printed; at = viewMachine m }
+      = runs .goes ∙ (rw (ran-stops tape (viewMachine m) (length out₀ - n) stops, append-nil (runs .printed))) in
+      rw all (record { lines = runs .wrote; view = refl; clean = runs .clean })

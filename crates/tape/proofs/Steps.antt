@@ -5,7 +5,7 @@ use mathlib.Core.List.{List, [], _∷_, _++_, append-assoc, append-nil, map}
 use Prim.Native.Nat.{ℕ, zero, suc, _+_, _-_, _≤_, _<_}
 use native.Mathlib.Numerals.{add-one}
 use native.Mathlib.Omega.{arith}
-use borrow.Author.Tests.{ltb-true, ltb-false, leb-true, leb-false, le-ltb}
+use borrow.Author.Tests.{ltb-true, ltb-false, leb-true, leb-false, le-ltb, ne-eqb}
 use lib.Dec.{ltb, leb, eqb}
 use lib.ListN.{length, take, drop, getD, length-take, length-drop}
 use lib.Seq.{take-nil, drop-drop}
@@ -18,7 +18,7 @@ use Rattle.tape.specs.declared.Place.{Place}
 use Rattle.tape.specs.Fields.{Item, networkByte, keyPair, askPair, headSize, tagAt, sizeAt, isKnown, isWhole, foundAt, partOf, pairs, itemsOf}
 use Rattle.tape.specs.Lines.{answerLine, badTape}
 use Rattle.tape.specs.Running.{Run, begun, lentFor, itemAnswer, afterItem, itemsRun, fieldRun, fieldsRun, tapeRoom, printed}
-use Rattle.tape.specs.Steps.{width, itemOf, At, isOver, restAt, goingOn, remaining, Going, pastItem, itemStep, fieldStep, goingStep, goes, stepped, start, inFront, StartPrints, StepPrints, ahead, StepFalls}
+use Rattle.tape.specs.Steps.{width, itemOf, At, isOver, isTooLong, restAt, goingOn, remaining, Going, ended, pastItem, itemStep, fieldStep, goingStep, goes, stepped, StartPrints, StepPrints, ahead, StepFalls}
 use Rattle.tape.proofs.Counted.{enough}
 
 -- a place where a run is not over
@@ -140,6 +140,16 @@ part-long tape at left k some h =
     let l = simp (length-take, length-drop) at h in
     (omega arith, omega arith)
 
+-- an item leaves the number of the field
+short-still : (tape : List ℕ) (p q : Place) → q .field ≡ p .field → isTooLong tape p ≡ false → isTooLong tape q ≡ false
+unfolding isTooLong
+short-still tape p q e short = rw e short
+
+-- behind a field's head the number is not 0
+numbered : (tape : List ℕ) (p : Place) (n : ℕ) → p .field ≡ n + 1 → isTooLong tape p ≡ false
+unfolding isTooLong
+numbered tape p n e = rw (e, ne-eqb (n + 1) 0 (λ z. omega (arith, z)))
+
 -- the run goes on in the field, or behind it
 module _ (tape : List ℕ) (a : At) where
   from-found : (f : Found) → Inside tape (a .place .next) f → Stands (a .place)
@@ -150,7 +160,7 @@ module _ (tape : List ℕ) (a : At) where
   from-found Bad i s = sym (append-nil (badTape (a .place .field + 1)))
   from-found (Field tag begin size cursor) i s =
       let p : Place = record { field = a .place .field + 1; item = 1; tag = tag; at = begin; left = size; next = cursor .at; over = false } in
-      rw (not-over p (record { going = refl; field = omega (arith, i .begins, i .ends, s .field); item = omega (arith, i .begins) }))
+      rw (not-over p (record { going = refl; field = omega (arith, i .begins, i .ends, s .field); item = omega (arith, i .begins) }), numbered tape p (a .place .field) refl)
 
   from-field : Stands (a .place) → length (restAt tape (a .place)) < width (a .place .tag)
       → goingOn tape a ≡ fieldStep a (foundAt tape (a .place .next)) .lines ++ remaining tape (fieldStep a (foundAt tape (a .place .next)) .at)
@@ -162,35 +172,40 @@ module _ (tape : List ℕ) (a : At) where
   past-stands : Stands (a .place) → Stands (pastItem (a .place))
   past-stands s = record { going = refl; field = s .field; item = omega (arith, s .item, some-width (a .place .tag)) }
 
-  from-item : Stands (a .place) → width (a .place .tag) ≤ length (restAt tape (a .place))
+  from-item : Stands (a .place) → isTooLong tape (a .place) ≡ false → width (a .place .tag) ≤ length (restAt tape (a .place))
       → (let i = itemOf (a .place .tag) (getD (restAt tape (a .place)) 0 0) (getD (restAt tape (a .place)) 1 0) in
       goingOn tape a ≡ itemStep a (pastItem (a .place)) i .lines ++ remaining tape (itemStep a (pastItem (a .place)) i .at))
   unfolding itemsRun remaining
-  from-item s h =
+  from-item s short h =
       let p = a .place in
       let i = itemOf (p .tag) (getD (restAt tape p) 0 0) (getD (restAt tape p) 1 0) in
       let lent = lentFor (a .run) in
       let answer = itemAnswer lent i in
       let ran = itemsRun (p .field) (p .item + 1) (afterItem lent answer) (itemsOf (p .tag) (restAt tape (pastItem p))) in
-      rw (items-next (a .place .tag) (restAt tape (a .place)) h, part-next tape (a .place .at) (a .place .left) (width (a .place .tag)), not-over (pastItem (a .place)) (past-stands s))
+      rw (items-next (a .place .tag) (restAt tape (a .place)) h, part-next tape (a .place .at) (a .place .left) (width (a .place .tag)), not-over (pastItem (a .place)) (past-stands s), short-still tape (a .place) (pastItem (a .place)) refl short)
       (append-assoc (answerLine (p .field) (p .item) answer) (ran .lines) (fieldsRun (length tape) tape (p .next) (p .field + 1) (ran .run)))
 
-  goes-on : Stands (a .place) → goingOn tape a ≡ goingStep tape a .lines ++ remaining tape (goingStep tape a .at)
+  goes-on : Stands (a .place) → isTooLong tape (a .place) ≡ false → goingOn tape a ≡ goingStep tape a .lines ++ remaining tape (goingStep tape a .at)
   unfolding goingStep
-  goes-on s =
+  goes-on s short =
       chosen (λ (g : Going). goingOn tape a ≡ g .lines ++ remaining tape (g .at)) (ltb (length (restAt tape (a .place))) (width (a .place .tag)))
       (λ e. from-field s (ltb-true (length (restAt tape (a .place))) (width (a .place .tag)) e))
-      (λ e. from-item s (ltb-false (length (restAt tape (a .place))) (width (a .place .tag)) e))
+      (λ e. from-item s short (ltb-false (length (restAt tape (a .place))) (width (a .place .tag)) e))
 
 pub step-prints : StepPrints
-unfolding remaining stepped
-step-prints tape a = go (isOver (a .place)) refl
+unfolding remaining stepped isOver
+step-prints tape a = go (isOver (a .place)) (isTooLong tape (a .place)) refl refl
   where
-    go : (b : Bool) → isOver (a .place) ≡ b
-        → pick b [] (goingOn tape a)
-        ≡ pick b (goes [] (a .run) (a .place)) (goingStep tape a) .lines ++ remaining tape (pick b (goes [] (a .run) (a .place)) (goingStep tape a) .at)
-    go true e = rw e
-    go false e = goes-on tape a (stands (a .place) e)
+    told : Going
+    told = goes (badTape 0) (a .run) (ended (a .place))
+
+    go : (b c : Bool) → isOver (a .place) ≡ b → isTooLong tape (a .place) ≡ c
+        → pick b [] (pick c (badTape 0) (goingOn tape a))
+        ≡ pick b (goes [] (a .run) (a .place)) (pick c told (goingStep tape a)) .lines
+        ++ remaining tape (pick b (goes [] (a .run) (a .place)) (pick c told (goingStep tape a)) .at)
+    go true c e f = rw e
+    go false true e f = sym (append-nil (badTape 0))
+    go false false e f = goes-on tape a (stands (a .place) e) f
 
 -- what is ahead falls
 module _ (tape : List ℕ) (a : At) (s : Stands (a .place)) where
@@ -218,16 +233,14 @@ unfolding stepped goingStep
 step-falls tape a e =
     let s = stands (a .place) e in
     let rest = restAt tape (a .place) in
+    let less : Going → Type 0 = λ g. ahead tape (g .at .place) < ahead tape (a .place) in
     rw e
-    (chosen (λ (g : Going). ahead tape (g .at .place) < ahead tape (a .place)) (ltb (length rest) (width (a .place .tag)))
+    (chosen less (isTooLong tape (a .place)) (λ _. found-falls tape a s End tt)
+    (λ _.
+    chosen less (ltb (length rest) (width (a .place .tag)))
     (λ _. found-falls tape a s (foundAt tape (a .place .next)) (found-inside tape (a .place .next)))
-    (λ f. item-falls tape a s (ltb-false (length rest) (width (a .place .tag)) f)))
+    (λ f. item-falls tape a s (ltb-false (length rest) (width (a .place .tag)) f))))
 
 pub start-prints : StartPrints
-unfolding start printed remaining isOver itemsRun itemsOf partOf
-start-prints tape = go (ltb tapeRoom (length tape))
-  where
-    go : (b : Bool) → pick b (badTape 0) (fieldsRun (length tape) tape 0 1 begun)
-        ≡ pick b (badTape 0) [] ++ remaining tape (record { run = begun; place = inFront b })
-    go true = sym (append-nil (badTape 0))
-    go false = refl
+unfolding printed remaining isOver isTooLong itemsRun itemsOf partOf
+start-prints tape = refl

@@ -4,4 +4,6 @@ pub mod Parts
 pub mod Running
 pub mod Whole
 pub mod Steps
+pub mod ManySteps
+pub mod Numbers
 pub mod Kept

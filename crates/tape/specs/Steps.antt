@@ -1,6 +1,6 @@
 -- A run step by step: one step looks up the next field, or does one item.
 use mathlib.Core.Path.{_≡_}
-use mathlib.Core.Bool.{Bool, true, false, _||_}
+use mathlib.Core.Bool.{Bool, true, false, _&&_, _||_}
 use mathlib.Core.List.{List, [], _∷_, _++_}
 use Prim.Native.Nat.{ℕ, _+_, _-_, _<_}
 use lib.ListN.{length, getD}
@@ -55,8 +55,12 @@ goingOn tape a =
     let ran = itemsRun (p .field) (p .item) (a .run) (itemsOf (p .tag) (restAt tape p)) in
     ran .lines ++ fieldsRun (length tape) tape (p .next) (p .field + 1) (ran .run)
 
+-- a tape that is too long is bad as a whole, which is told in front of its first field
+unfoldable pub isTooLong : List ℕ → Place → Bool
+isTooLong tape p = eqb (p .field) 0 && ltb tapeRoom (length tape)
+
 unfoldable pub remaining : List ℕ → At → List ℕ
-remaining tape a = pick (isOver (a .place)) [] (goingOn tape a)
+remaining tape a = pick (isOver (a .place)) [] (pick (isTooLong tape (a .place)) (badTape 0) (goingOn tape a))
 
 -- what a step prints, and where the run stands after it
 pub record Going : Type 0 where
@@ -102,19 +106,16 @@ goingStep tape a =
     (itemStep a (pastItem p) (itemOf (p .tag) (getD rest 0 0) (getD rest 1 0)))
 
 unfoldable pub stepped : List ℕ → At → Going
-stepped tape a = pick (isOver (a .place)) (goes [] (a .run) (a .place)) (goingStep tape a)
+stepped tape a =
+    pick (isOver (a .place)) (goes [] (a .run) (a .place))
+    (pick (isTooLong tape (a .place)) (goes (badTape 0) (a .run) (ended (a .place))) (goingStep tape a))
 
--- the start: in front of the first field, or over where the tape is too long
-abbrev pub inFront : Bool → Place
-inFront over = record { field = 0; item = 0; tag = 1; at = 0; left = 0; next = 0; over = over }
-
-unfoldable pub start : List ℕ → Going
-start tape =
-    let long = ltb tapeRoom (length tape) in
-    goes (pick long (badTape 0) []) begun (inFront long)
+-- a run starts in front of the first field
+abbrev pub start : At
+start = record { run = begun; place = record { field = 0; item = 0; tag = 1; at = 0; left = 0; next = 0; over = false } }
 
 abbrev pub StartPrints : Type 0
-StartPrints = (tape : List ℕ) → printed tape ≡ start tape .lines ++ remaining tape (start tape .at)
+StartPrints = (tape : List ℕ) → printed tape ≡ remaining tape start
 
 abbrev pub StepPrints : Type 0
 StepPrints = (tape : List ℕ) (a : At) → remaining tape a ≡ stepped tape a .lines ++ remaining tape (stepped tape a .at)

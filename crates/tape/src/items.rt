@@ -8,6 +8,7 @@ ghost use Rattle.tape.specs.Running.{pairCall, itemCall};
 ghost use Rattle.tape.specs.Steps.{pairOf, itemOf};
 ghost use Rattle.tape.specs.Kept.{MetItem};
 use super::Pair;
+use super::Place;
 use super::Shown;
 use super::lines;
 use codes::Code;
@@ -63,28 +64,26 @@ fn call_item(s: Printer, tag: u8, a: u8, b: u8, paper: &mut [u8], wire: &mut [u8
     }
 }
 
-// An item and its line.
+// The item at a place, and its line.
 pub fn put_item(
     s: Printer,
-    field: usize,
-    item: usize,
-    tag: u8,
+    p: Place,
     a: u8,
     b: u8,
     paper: &mut [u8],
     wire: &mut [u8],
     out: &mut [u8],
 ) -> Shown
-    requires { ⌜ RoomFor (answerLine field item (itemCall (viewPrinter s) (itemOf tag a b) (length (now paper)) (length (now wire)))) (now out) ⌝ }
-    ensures { λ r. ⌜ MetItem (itemCall (viewPrinter s) (itemOf tag a b) (length (now (paper .entry))) (length (now (wire .entry)))) (answerLine field item (itemCall (viewPrinter s) (itemOf tag a b) (length (now (paper .entry))) (length (now (wire .entry))))) s (now (out .entry)) (now (out .exit)) r ⌝ }
+    requires { ⌜ RoomFor (answerLine (p .field) (p .item) (itemCall (viewPrinter s) (itemOf (p .tag) a b) (length (now paper)) (length (now wire)))) (now out) ⌝ }
+    ensures { λ r. ⌜ MetItem (itemCall (viewPrinter s) (itemOf (p .tag) a b) (length (now (paper .entry))) (length (now (wire .entry)))) (answerLine (p .field) (p .item) (itemCall (viewPrinter s) (itemOf (p .tag) a b) (length (now (paper .entry))) (length (now (wire .entry))))) s (now (paper .entry)) (now (paper .exit)) (now (wire .entry)) (now (wire .exit)) (now (out .entry)) (now (out .exit)) r ⌝ }
 {
-    let answer = call_item(s, tag, a, b, paper, wire);
+    let answer = call_item(s, p.tag, a, b, paper, wire);
     let code = answer.code;
     let number = codes::code_number(code);
     let state = answer.state;
     let written = lines::put_shown(
-        field,
-        item,
+        p.field,
+        p.item,
         number,
         &paper[..answer.paper],
         &wire[..answer.wire],

@@ -9,8 +9,10 @@ ghost use Rattle.printer.specs.Kept.{CleanPrinter};
 ghost use Rattle.tape.specs.Running.{lentPaper, lentWire};
 ghost use Rattle.tape.specs.Whole.{lineRoom};
 ghost use Rattle.tape.specs.Fields.{foundAt};
-ghost use Rattle.tape.specs.Steps.{width, itemOf, isOver, restAt, ended, pastItem, itemStep, fieldStep, goingStep, stepped, start, inFront, remaining};
-ghost use Rattle.tape.specs.Kept.{viewMachine, MetGoing, MetStart, MetRun};
+ghost use Rattle.tape.specs.Lines.{badTape};
+ghost use Rattle.tape.specs.Steps.{width, itemOf, isOver, isTooLong, ended, pastItem, goes, itemStep, fieldStep, stepped};
+ghost use Rattle.tape.specs.ManySteps.{ranFor};
+ghost use Rattle.tape.specs.Kept.{viewMachine, MetGoing, MetStart};
 use super::Cursor;
 use super::Found;
 use super::Machine;
@@ -22,9 +24,9 @@ use super::lines;
 use printer::calls;
 
 // The sizes of the buffers that are lent.
-pub const PAPER: usize = 4096;
+const PAPER: usize = 4096;
 
-pub const WIRE: usize = 8192;
+const WIRE: usize = 8192;
 
 // A longer tape is not read.
 const TAPE: usize = 65536;
@@ -117,17 +119,7 @@ fn one_item(
     let printer = m.printer;
     let p = used_for(m.paper, PAPER, 1024);
     let w = used_for(m.wire, WIRE, 2048);
-    let shown = items::put_item(
-        printer,
-        place.field,
-        place.item,
-        place.tag,
-        a,
-        b,
-        &mut paper[p..],
-        &mut wire[w..],
-        out,
-    );
+    let shown = items::put_item(printer, place, a, b, &mut paper[p..], &mut wire[w..], out);
     let state = shown.state;
     let machine = Machine {
         printer: state,
@@ -139,6 +131,24 @@ fn one_item(
         written: shown.written,
         machine,
     }
+}
+
+// A run in front of a field's first item.
+fn entered(m: Machine, field: usize, tag: u8, start: usize, size: usize, next: Cursor) -> Machine
+    ensures { λ r. ⌜ r ≡ record { printer = m .printer; paper = m .paper; wire = m .wire; place = record { field = field; item = 1; tag = tag; at = start; left = size; next = next .at; over = false } } ⌝ }
+{
+    let place = Place {
+        field,
+        item: 1,
+        tag,
+        at: start,
+        left: size,
+        next: next.at,
+        over: false,
+    };
+    let mut r = m;
+    r.place = place;
+    r
 }
 
 // The next field, the end, or a bad field, which is the last thing printed.
@@ -167,27 +177,39 @@ fn next_field(tape: &[u8], m: Machine, out: &mut [u8]) -> Stepped
             size,
             next,
         } => {
-            let first = Place {
-                field: place.field + 1,
-                item: 1,
-                tag,
-                at: start,
-                left: size,
-                next: next.at,
-                over: false,
-            };
-            let mut machine = m;
-            machine.place = first;
+            let field = place.field + 1;
             Stepped {
                 written: 0,
-                machine,
+                machine: entered(m, field, tag, start, size, next),
             }
         }
     }
 }
 
+// Whether the tape is too long; this is told once, in front of the first field.
+fn is_too_long(tape: &[u8], p: Place) -> bool
+    ensures { λ r. ⌜ r ≡ isTooLong (now (tape .entry)) p ⌝ }
+{
+    if p.field > 0 {
+        return false;
+    }
+    TAPE < tape.len()
+}
+
+// A tape that is too long is bad as a whole.
+fn refuse_tape(m: Machine, out: &mut [u8]) -> Stepped
+    requires { ⌜ lineRoom ≤ length (now out) ⌝ }
+    ensures { λ r. ⌜ MetGoing (goes (badTape 0) (viewMachine m .run) (ended (m .place))) m (now (out .entry)) (now (out .exit)) r ⌝ }
+{
+    let written = lines::put_bad(0, out);
+    Stepped {
+        written,
+        machine: stopped(m),
+    }
+}
+
 // One step.
-pub fn step(tape: &[u8], m: Machine, paper: &mut [u8], wire: &mut [u8], out: &mut [u8]) -> Stepped
+fn step(tape: &[u8], m: Machine, paper: &mut [u8], wire: &mut [u8], out: &mut [u8]) -> Stepped
     requires { ⌜ length (now paper) ≡ lentPaper ⌝ }
     requires { ⌜ length (now wire) ≡ lentWire ⌝ }
     requires { ⌜ lineRoom ≤ length (now out) ⌝ }
@@ -200,6 +222,9 @@ pub fn step(tape: &[u8], m: Machine, paper: &mut [u8], wire: &mut [u8], out: &mu
             machine: m,
         };
     }
+    if is_too_long(tape, place) {
+        return refuse_tape(m, out);
+    }
     let rest = fields::body_of(tape, place.at, place.left);
     if rest.len() < width(place.tag) {
         return next_field(tape, m, out);
@@ -210,12 +235,27 @@ pub fn step(tape: &[u8], m: Machine, paper: &mut [u8], wire: &mut [u8], out: &mu
     one_item(m, after, a, b, paper, wire, out)
 }
 
-// The start of a run: a tape that is too long is bad as a whole.
-pub fn begin(tape: &[u8], out: &mut [u8]) -> Stepped
-    requires { ⌜ lineRoom ≤ length (now out) ⌝ }
-    ensures { λ r. ⌜ MetStart (now (tape .entry)) (now (out .entry)) (now (out .exit)) r ⌝ }
+// Steps while a line surely fits and the run is not over.
+fn run_lent(tape: &[u8], m: Machine, paper: &mut [u8], wire: &mut [u8], out: &mut [u8]) -> Stepped
+    requires { ⌜ length (now paper) ≡ lentPaper ⌝ }
+    requires { ⌜ length (now wire) ≡ lentWire ⌝ }
+    ensures { λ r. ⌜ MetGoing (ranFor (now (tape .entry)) (viewMachine m) (length (now (out .entry)))) m (now (out .entry)) (now (out .exit)) r ⌝ }
 {
-    let machine = Machine {
+    let mut machine = m;
+    let mut written: usize = 0;
+    while !is_over(machine.place) && LINE <= out.len() - written {
+        let s = step(tape, machine, paper, wire, &mut out[written..]);
+        machine = s.machine;
+        written += s.written;
+    }
+    Stepped { written, machine }
+}
+
+// A run in front of its tape.
+pub fn begin() -> Machine
+    ensures { λ r. ⌜ MetStart r ⌝ }
+{
+    Machine {
         printer: calls::fresh(),
         paper: 0,
         wire: 0,
@@ -226,31 +266,17 @@ pub fn begin(tape: &[u8], out: &mut [u8]) -> Stepped
             at: 0,
             left: 0,
             next: 0,
-            over: TAPE < tape.len(),
+            over: false,
         },
-    };
-    if machine.place.over {
-        let written = lines::put_bad(0, out);
-        return Stepped { written, machine };
-    }
-    Stepped {
-        written: 0,
-        machine,
     }
 }
 
-// Steps while a line surely fits and the run is not over.
-pub fn run(tape: &[u8], m: Machine, paper: &mut [u8], wire: &mut [u8], out: &mut [u8]) -> Stepped
-    requires { ⌜ length (now paper) ≡ lentPaper ⌝ }
-    requires { ⌜ length (now wire) ≡ lentWire ⌝ }
-    ensures { λ r. ⌜ MetRun (now (tape .entry)) m (now (out .entry)) (now (out .exit)) r ⌝ }
+// The lines of a tape that the output surely has room for. The buffers that items are lent are this function's own:
+// what an earlier item wrote there is read by none.
+pub fn run(tape: &[u8], m: Machine, out: &mut [u8]) -> Stepped
+    ensures { λ r. ⌜ MetGoing (ranFor (now (tape .entry)) (viewMachine m) (length (now (out .entry)))) m (now (out .entry)) (now (out .exit)) r ⌝ }
 {
-    let mut machine = m;
-    let mut written: usize = 0;
-    while !is_over(machine.place) && LINE <= out.len() - written {
-        let s = step(tape, machine, paper, wire, &mut out[written..]);
-        machine = s.machine;
-        written += s.written;
-    }
-    Stepped { written, machine }
+    let mut paper = [0u8; 4096];
+    let mut wire = [0u8; 8192];
+    run_lent(tape, m, &mut paper, &mut wire, out)
 }

@@ -56,8 +56,8 @@ returns c =
     let e = c .before .before .before .before .before .before .before .before .before .before .before .before .call-item .ensures in
     record {
       line = rw (read-off (c .before .before .before .before .before .before .before .before .before .before .before .before .call-item .ensures .wrote .paper), read-off (c .before .before .before .before .before .before .before .before .before .before .before .before .call-item .ensures .wrote .wire), c .before .before .before .before .before .before .before .code-number .ensures, e .code) at (c .before .before .put-shown .ensures);
-      paper = e .wrote .paper .count;
-      wire = e .wrote .wire .count;
+      paper = e .wrote .paper;
+      wire = e .wrote .wire;
       view = e .view;
       clean = e .clean;
     }

@@ -1,4 +1,4 @@
-use Rattle.tape.proofs.Machines.{step-field, step-item}
+use Rattle.tape.proofs.Machines.{step-long, step-field, step-item}
 use Rattle.tape.proofs.Steps.{stands, some-width, part-long}
 use Rattle.tape.specs.Kept.{viewMachine}
 use Rattle.tape.specs.Steps.{stepped}
@@ -13,76 +13,78 @@ use Rattle.tape.proofs.running.step.Reads as reads
 use Rattle.tape.proofs.running.step.Lts as lts
 use Rattle.tape.proofs.fields.body_of.Reads as body-of-reads
 use Rattle.tape.proofs.running.is_over.Reads as is-over-reads
+use Rattle.tape.proofs.running.is_too_long.Reads as is-too-long-reads
 use Rattle.tape.proofs.running.next_field.Reads as next-field-reads
 use Rattle.tape.proofs.running.one_item.Reads as one-item-reads
 use Rattle.tape.proofs.running.past_item.Reads as past-item-reads
+use Rattle.tape.proofs.running.refuse_tape.Reads as refuse-tape-reads
 use Rattle.tape.proofs.running.second.Reads as second-reads
 use Rattle.tape.proofs.running.width.Reads as width-reads
 
--- src/running.rt:188:8
 is-over-requires : tie.Need-is-over-requires
 is-over-requires c κs = search needs
 
--- src/running.rt:189:9
 returns : tie.Need-returns
 unfolding stepped
 returns c = rw (sym (c .before .is-over .ensures) ∙ c .if1 .taken) (record { lines = wrote-none _; view = refl; clean = λ k. k })
 
--- src/running.rt:194:9
-body-of-requires : tie.Need-body-of-requires
-body-of-requires c κs = search needs
+is-too-long-requires : tie.Need-is-too-long-requires
+is-too-long-requires c κs = search needs
 
--- src/running.rt:195:21
-width-requires : tie.Need-width-requires
-width-requires c κs = search needs
+refuse-tape-requires : tie.Need-refuse-tape-requires
+refuse-tape-requires c κs = c .before .before .before .before .before .before .before .before .before .before .pre .1 .1
 
--- src/running.rt:196:9
-next-field-requires : tie.Need-next-field-requires
-next-field-requires c κs = (stands _ (sym (c .before .before .before .before .before .is-over .ensures) ∙ c .before .before .before .before .if1 .left) .field, c .before .before .before .before .before .before .before .before .before .before .before .pre .1 .1)
-
--- src/running.rt:196:9
 same-length : tie.Need-same-length
 same-length c = search needs
 
--- src/running.rt:196:9
 returns-2 : tie.Need-returns-2
-returns-2 c = rw (step-field (c .before .before .before .before .before .before .before .before .before .before .before .before .before .before .args .tape .now) (viewMachine (c .before .before .before .before .before .before .before .before .before .before .before .before .before .before .args .m)) (sym (c .before .before .before .before .before .before .before .before .is-over .ensures) ∙ c .before .before .before .before .before .before .before .if1 .left) (rw (c .before .before .before .before .before .before .body-of .ensures, c .before .before .before .before .before .width .ensures) at (c .before .before .before .before .if2 .taken))) (c .before .before .next-field .ensures)
+returns-2 c =
+    rw (step-long (c .before .before .before .before .before .before .before .before .before .before .before .before .before .args .tape .now) (viewMachine (c .before .before .before .before .before .before .before .before .before .before .before .before .before .args .m)) (sym (c .before .before .before .before .before .before .before .is-over .ensures) ∙ c .before .before .before .before .before .before .if1 .left) (sym (c .before .before .before .before .before .is-too-long .ensures) ∙ c .before .before .before .before .if2 .taken)) (c .before .before .refuse-tape .ensures)
 
--- src/running.rt:198:13
-shared-slice-read-a : tie.Need-shared-slice-read-a
-shared-slice-read-a c = omega (arith, c .before .if2 .left, c .before .before .width .ensures, some-width (c .before .before .before .before .before .before .before .before .before .before .before .args .m .place .tag))
+body-of-requires : tie.Need-body-of-requires
+body-of-requires c κs = search needs
 
--- src/running.rt:199:9
-second-requires : tie.Need-second-requires
-second-requires c κs = search needs
+width-requires : tie.Need-width-requires
+width-requires c κs = search needs
 
--- src/running.rt:200:9
-past-item-requires : tie.Need-past-item-requires
-past-item-requires c κs =
-    let p = c .before .before .before .before .before .before .before .before .before .before .before .before .args .m .place in
-    let long = part-long (c .before .before .before .before .before .before .before .before .before .before .before .before .args .tape .now) (p .at) (p .left) _ (some-width (p .tag)) (rw (c .before .before .before .before .body-of .ensures, c .before .before .before .width .ensures) at (c .before .before .if2 .left)) in
-    (stands _ (sym (c .before .before .before .before .before .before .is-over .ensures) ∙ c .before .before .before .before .before .if1 .left) .item, (long .1, long .0))
+next-field-requires : tie.Need-next-field-requires
+next-field-requires c κs = (stands _ (sym (c .before .before .before .before .before .before .before .is-over .ensures) ∙ c .before .before .before .before .before .before .if1 .left) .field, c .before .before .before .before .before .before .before .before .before .before .before .before .before .pre .1 .1)
 
--- src/running.rt:201:5
-one-item-requires : tie.Need-one-item-requires
-one-item-requires c κs = search needs
-
--- src/running.rt:181:1
 same-length-2 : tie.Need-same-length-2
 same-length-2 c = search needs
 
--- src/running.rt:181:1
+returns-3 : tie.Need-returns-3
+returns-3 c =
+    rw (step-field (c .before .before .before .before .before .before .before .before .before .before .before .before .before .before .before .before .args .tape .now) (viewMachine (c .before .before .before .before .before .before .before .before .before .before .before .before .before .before .before .before .args .m)) (sym (c .before .before .before .before .before .before .before .before .before .before .is-over .ensures) ∙ c .before .before .before .before .before .before .before .before .before .if1 .left) (sym (c .before .before .before .before .before .before .before .before .is-too-long .ensures) ∙ c .before .before .before .before .before .before .before .if2 .left) (rw (c .before .before .before .before .before .before .body-of .ensures, c .before .before .before .before .before .width .ensures) at (c .before .before .before .before .if3 .taken)))
+    (c .before .before .next-field .ensures)
+
+shared-slice-read-a : tie.Need-shared-slice-read-a
+shared-slice-read-a c = omega (arith, c .before .if3 .left, c .before .before .width .ensures, some-width (c .before .before .before .before .before .before .before .before .before .before .before .before .before .args .m .place .tag))
+
+second-requires : tie.Need-second-requires
+second-requires c κs = search needs
+
+past-item-requires : tie.Need-past-item-requires
+past-item-requires c κs =
+    let p = c .before .before .before .before .before .before .before .before .before .before .before .before .before .before .args .m .place in
+    let long = part-long (c .before .before .before .before .before .before .before .before .before .before .before .before .before .before .args .tape .now) (p .at) (p .left) _ (some-width (p .tag)) (rw (c .before .before .before .before .body-of .ensures, c .before .before .before .width .ensures) at (c .before .before .if3 .left)) in
+    (stands _ (sym (c .before .before .before .before .before .before .before .before .is-over .ensures) ∙ c .before .before .before .before .before .before .before .if1 .left) .item, (long .1, long .0))
+
+one-item-requires : tie.Need-one-item-requires
+one-item-requires c κs = search needs
+
 same-length-3 : tie.Need-same-length-3
 same-length-3 c = search needs
 
--- src/running.rt:181:1
 same-length-4 : tie.Need-same-length-4
 same-length-4 c = search needs
 
--- src/running.rt:181:1
-returns-3 : tie.Need-returns-3
-returns-3 c =
-    rw (step-item (c .before .before .before .before .before .before .before .before .before .before .before .before .before .before .before .before .before .before .before .before .before .before .before .args .tape .now) (viewMachine (c .before .before .before .before .before .before .before .before .before .before .before .before .before .before .before .before .before .before .before .before .before .before .before .args .m)) (sym (c .before .before .before .before .before .before .before .before .before .before .before .before .before .before .before .before .before .is-over .ensures) ∙ c .before .before .before .before .before .before .before .before .before .before .before .before .before .before .before .before .if1 .left) (rw (c .before .before .before .before .before .before .before .before .before .before .before .before .before .before .before .body-of .ensures, c .before .before .before .before .before .before .before .before .before .before .before .before .before .before .width .ensures) at (c .before .before .before .before .before .before .before .before .before .before .before .before .before .if2 .left)))
+same-length-5 : tie.Need-same-length-5
+same-length-5 c = search needs
+
+returns-4 : tie.Need-returns-4
+returns-4 c =
+    rw (step-item (c .before .before .before .before .before .before .before .before .before .before .before .before .before .before .before .before .before .before .before .before .before .before .before .before .before .args .tape .now) (viewMachine (c .before .before .before .before .before .before .before .before .before .before .before .before .before .before .before .before .before .before .before .before .before .before .before .before .before .args .m)) (sym (c .before .before .before .before .before .before .before .before .before .before .before .before .before .before .before .before .before .before .before .is-over .ensures) ∙ c .before .before .before .before .before .before .before .before .before .before .before .before .before .before .before .before .before .before .if1 .left) (sym (c .before .before .before .before .before .before .before .before .before .before .before .before .before .before .before .before .before .is-too-long .ensures) ∙ c .before .before .before .before .before .before .before .before .before .before .before .before .before .before .before .before .if2 .left) (rw (c .before .before .before .before .before .before .before .before .before .before .before .before .before .before .before .body-of .ensures, c .before .before .before .before .before .before .before .before .before .before .before .before .before .before .width .ensures) at (c .before .before .before .before .before .before .before .before .before .before .before .before .before .if3 .left)))
     (rw (c .before .before .before .before .before .before .before .before .before .before .past-item .ensures, c .before .before .before .before .before .before .before .before .before .before .before .second .ensures, c .before .before .before .before .before .before .before .before .before .before .before .before .before .before .before .body-of .ensures) at (c .before .before .before .before .before .before .one-item .ensures))
 
 pub step-spec : {M : Type 1} → statement M
@@ -91,16 +93,20 @@ step-spec =
     (tie.spec
     is-over-requires
     returns
+    is-too-long-requires
+    refuse-tape-requires
+    same-length
+    returns-2
     body-of-requires
     width-requires
     next-field-requires
-    same-length
-    returns-2
+    same-length-2
+    returns-3
     shared-slice-read-a
     second-requires
     past-item-requires
     one-item-requires
-    same-length-2
     same-length-3
     same-length-4
-    returns-3)
+    same-length-5
+    returns-4)
