@@ -1,4 +1,4 @@
--- BM's bodies, at the printer end and at the bulletin end. A subcommand meant for the other end has the wrong shape.
+-- BM's bodies, as each end reads them. To either end, what only the other may be sent is of the wrong shape.
 use mathlib.Core.Bool.{Bool, _&&_, not}
 use mathlib.Core.List.{List}
 use Prim.Native.Nat.{ℕ}

@@ -1,4 +1,4 @@
-// The parsed bodies of RCTE, BM and NAOCRD. Each has a case for a body that is not of the right shape.
+// The parsed bodies of RCTE, BM and NAOCRD. One case of each is for a body of the wrong shape.
 ghost use mathlib.Core.Path.{_≡_};
 ghost use mathlib.Core.Bool.{true};
 ghost use Prim.Native.Nat.{_+_, _<_};

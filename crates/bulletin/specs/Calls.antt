@@ -43,7 +43,7 @@ suggestCall s v wire =
     (refused s)
     (done (sends (frame (NAOCRD ∷ DS ∷ v ∷ [])) (withValues s (withDs (s .values) v))))
 
--- an order takes 0 or an odd cmd up to 31
+-- an order's cmd is 0, or odd and at most 31
 abbrev pub badOrder : ℕ → Bool
 badOrder cmd = not (eqb cmd 0 || (eqb (cmd % 2) 1 && leb cmd 31))
 

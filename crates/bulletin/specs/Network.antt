@@ -47,7 +47,7 @@ sideHeard s whose enable option side = heardBy (s .sides) whose option side enab
 unfoldable pub negotiationRead : Bulletin → Verb → ℕ → Did
 negotiationRead s v option = sideHeard s (whoseOf v) (enables v) option (bulletinSide (whoseOf v) option)
 
--- PLEASE CANCEL of an accepted byte is answered by defining it as itself
+-- PLEASE CANCEL: an accepted byte is defined as itself, for any other nothing is done
 abbrev pub cancelled : Bulletin → ℕ → Did
 cancelled s x =
     pick (isAccepted (sentOf (s .table) x))
@@ -67,7 +67,7 @@ abbrev pub valueRead : Bulletin → ValueBody → Did
 valueRead s ValueBody.Unreadable = notes Unreadable s
 valueRead s (ValueBody.Readable v) = nothing (withValues s (withDr (s .values) v))
 
--- checks on a body in order: marred or empty, another option (RCTE included), not in force, shape
+-- of a body neither marred nor empty: first its option (RCTE is not read here), then whether it is in force, then its shape
 unfoldable pub optionRead : Bulletin → ℕ → List ℕ → Did
 optionRead s option body =
     pick (eqb option NAOCRD) (pick (returnsOn s) (valueRead s (valueBody DR body)) (notes Inactive s))

@@ -3,7 +3,7 @@ ghost use mathlib.Core.Path.{_≡_};
 ghost use Rattle.codes.specs.Answers.{codeNumber, noteNumber, firstNote};
 ghost use Rattle.codes.specs.Telnet.{verbNumber, whoseOf, enables, plainCommand, otherSide};
 
-// A refusal leaves the state and every lent byte as they were; Done is the one code that does not refuse.
+// Every code but Done is a refusal: the state and the lent bytes do not change.
 pub enum Code {
     Done,
     NoRoom,

@@ -27,11 +27,11 @@ noDefinitions = replicate 256 free
 abbrev pub sentOf : Definitions → ℕ → Sent
 sentOf t x = getD t x free
 
--- data 255 in a text is stored as two bytes
+-- the stored form of a text has each 255 twice
 abbrev pub stored : List ℕ → List ℕ
 stored s = doubled s
 
--- texts of pending and accepted bytes count, as they are stored
+-- what a byte's text counts: its stored length, if the byte is pending or accepted
 abbrev pub sentLength : Sent → ℕ
 sentLength free = 0
 sentLength (pending s) = length (stored s)
@@ -72,7 +72,7 @@ defining t x s = set t x (sentFor x s)
 abbrev pub storedRoom : ℕ
 storedRoom = 255
 
--- a text over 255 bytes stored, or all texts, it replacing the byte's old one, over 1,024
+-- its stored form is over 255 bytes long, or with it instead of the old text all texts are over 1,024
 unfoldable pub isTooLong : Definitions → ℕ → List ℕ → Bool
 isTooLong t x s = ltb storedRoom (length (stored s)) || ltb textRoom (sentTotal (defining t x s))
 

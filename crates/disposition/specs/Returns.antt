@@ -21,7 +21,7 @@ withDs v n = record { ds = n; dr = v .dr }
 abbrev pub withDr : Values → ℕ → Values
 withDr v n = record { ds = v .ds; dr = n }
 
--- the sender handles exactly if DS is 0, by DR; else the receiver, by DS
+-- with DS 0 the sender handles, as DR says; otherwise the receiver does, as DS says
 unfoldable pub handling : Values → Handling
 handling v = pick (eqb (v .ds) 0) (Sender (v .dr)) (Receiver (v .ds))
 

@@ -62,7 +62,7 @@ pressed e k = pick (e .held) (waits e k) (tookOne e k (takenUp (e .orders) (e .g
 abbrev pub holding : Echo → Echo
 holding e = record { held = true; orders = e .orders; waiting = e .waiting; gathered = e .gathered }
 
--- waiting keys taken up in order until one of them breaks; none left, later keys are taken at once
+-- waiting keys are taken up one after the other, the first break being the last; if none breaks, the hold is over
 abbrev pub stoppedAt : Orders → Key → List Key → Taken → Echoed
 stoppedAt o k ks t = record {
   paper = t .paper;
@@ -98,7 +98,7 @@ ordersNow (Perform a bc tc) o = record { action = a; breaks = classesNow bc (o .
 unfoldable pub commanded : Echo → RcteCommand → Echoed
 commanded e c = released (ordersNow c (e .orders)) (e .gathered) (e .waiting)
 
--- RCTE's end: gathered bytes are sent, and all waiting keys taken up as without it
+-- as RCTE ends: what was gathered goes out, then each waiting key is taken up as without RCTE
 unfoldable pub ended : Bool → Echo → Echoed
 ended echoed e = record {
   paper = joined (λ k. sentPaper echoed k) (e .waiting);

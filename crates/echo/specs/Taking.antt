@@ -36,7 +36,7 @@ isBreak o k = isCommand k || inClasses (o .breaks) (keyClass k)
 unfoldable pub isSend : Orders → Key → Bool
 isSend o k = inClasses (o .sends) (keyClass k)
 
--- bit 1 decides for a break, bit 2 for every other key
+-- a break is skipped by bit 1, other keys by bit 2
 abbrev pub isSkipped : Orders → Key → Bool
 isSkipped o k = pick (isBreak o k) (o .action .skipbreak) (o .action .skiptext)
 
@@ -75,7 +75,7 @@ takenUp o gathered k = record {
 abbrev pub underRcte : Orders → Key → TakeUp
 underRcte o k = record { key = k; how = under (o .action .skiptext) (isBreak o k) (isSend o k) }
 
--- without RCTE a key is sent at once, and printed unless the other end echoes
+-- the paper of a key that goes out as it is typed: none if the other end echoes
 abbrev pub sentPaper : Bool → Key → List ℕ
 sentPaper echoed k = pick echoed [] (keyPaper k)
 

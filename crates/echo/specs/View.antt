@@ -29,11 +29,11 @@ gatheredIn e = take (min (e .filled) gatherRoom) (e .gathered)
 abbrev pub viewEcho : EchoCells → Echo
 viewEcho e = record { held = e .held; orders = ordersIn e; waiting = waitingIn e; gathered = gatheredIn e }
 
--- each count is within its array, and the cells past it are 0
 -- each cell for a waiting key has the number of the key that it is read as
 abbrev pub Numbered : List ℕ → Type 0
 Numbered cells = (i : ℕ) → packed (unpacked (getD cells i 0)) ≡ getD cells i 0
 
+-- each count is within its array, and the cells past it are 0
 pub record CleanEcho (e : EchoCells) : Type 0 where
   pub waiting : Clean (e .waiting) (e .count)
   pub numbers : Numbered (e .waiting)

@@ -1,4 +1,4 @@
-// RCTE's control of the keyboard: hold, classes, waiting keys, gathered bytes.
+// RCTE's control of the keyboard: the hold, the orders, what waits and what is gathered.
 ghost use mathlib.Core.Path.{_≡_};
 ghost use mathlib.Core.Bool.{true, false};
 ghost use Prim.Native.Nat.{_+_, _-_, _≤_, _<_, min};
@@ -183,7 +183,7 @@ fn ordered(e: Echo, c: RcteCommand) -> Echo
     }
 }
 
-// The keys from a place up to count, moved to the front; the cells behind them are 0.
+// Drops the keys before a place: the others come first, and the cells behind them are 0.
 fn shifted(keys: [u16; 256], from: usize, count: usize) -> [u16; 256]
     requires { ⌜ (from ≤ count) × (count ≤ 256) ⌝ }
     ensures { λ r. ⌜ r ≡ drop from (take count keys) ++ replicate (256 - (count - from)) 0 ⌝ }
@@ -237,7 +237,7 @@ fn is_send(o: Orders, k: Key) -> bool
     keys::in_classes(o.sends, class)
 }
 
-// Bit 1 decides for a break, bit 2 for every other key.
+// A break is skipped by bit 1, other keys by bit 2.
 fn is_skipped(o: Orders, k: Key) -> bool
     ensures { λ r. ⌜ r ≡ isSkipped (viewOrders o) k ⌝ }
 {
@@ -445,7 +445,7 @@ pub fn pressed(e: Echo, k: Key, paper: &mut [u8], wire: &mut [u8]) -> Echoed
     pressed_in_room(e, k, paper, wire)
 }
 
-// Waiting keys are taken up in order until one of them breaks; none left, later keys are taken at once.
+// Takes up waiting keys one after the other, the first break being the last; if none breaks, the hold is over.
 fn release(e: Echo, paper: &mut [u8], wire: &mut [u8]) -> Echoed
     requires { ⌜ RoomFor (releasing (viewEcho e) .paper) (now paper) ⌝ }
     requires { ⌜ RoomFor (releasing (viewEcho e) .wire) (now wire) ⌝ }
@@ -515,7 +515,7 @@ fn send_waiting(e: Echo, echoed: bool, paper: &mut [u8], wire: &mut [u8]) -> Wri
     Written { paper: p, wire: w }
 }
 
-// RCTE's end: gathered bytes are sent, and all waiting keys taken up as without it.
+// As RCTE ends: what was gathered goes out, then each waiting key is taken up as without RCTE.
 pub fn ended(e: Echo, echoed: bool, paper: &mut [u8], wire: &mut [u8]) -> Echoed
     requires { ⌜ RoomFor (control.ended echoed (viewEcho e) .paper) (now paper) ⌝ }
     requires { ⌜ RoomFor (control.ended echoed (viewEcho e) .wire) (now wire) ⌝ }

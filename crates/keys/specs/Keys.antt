@@ -46,7 +46,7 @@ isCommand (Char b) = false
 isCommand Line = false
 isCommand (Command c) = true
 
--- class k is bit k - 1 of the class pair, read as one number with its first byte high
+-- a class pair is one number, its high byte first, and bit k - 1 of it stands for class k
 unfoldable pub inClasses : ℕ → ℕ → Bool
 inClasses pair k = not (eqb k 0) && eqb (pair / 2 ^ (k - 1) % 2) 1
 

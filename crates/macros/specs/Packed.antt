@@ -1,4 +1,4 @@
--- The receiving table as the code keeps it: a mark for each byte, and the texts packed in the order of their bytes.
+-- The receiving table as the code keeps it: a mark for each byte, and the texts without gaps, that of a lower byte first.
 use mathlib.Core.Path.{_≡_}
 use mathlib.Core.Bool.{Bool, true, false}
 use mathlib.Core.List.{List, [], _∷_, _++_, map}

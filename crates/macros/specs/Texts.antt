@@ -61,7 +61,7 @@ judgedRest t x (count ∷ s) = judgedText t x count s
 unfoldable pub judged : Table → ℕ → List ℕ → Verdict
 judged t x rest = pick (eqb x 255) (Refused 1) (judgedRest t x rest)
 
--- after a refusal X's old text stands
+-- a refused DEFINE leaves X with its old text
 abbrev pub afterDefine : Verdict → Table → ℕ → List ℕ → Table
 afterDefine Accepted t x s = defined t x s
 afterDefine (Refused reason) t x s = t

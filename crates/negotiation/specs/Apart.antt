@@ -1,5 +1,5 @@
--- ECHO and RCTE are never both away from NO: the clash is judged only where one of them would leave NO, so no other row
--- of the table needs a test.
+-- ECHO or RCTE is always at NO: a clash is judged where one of them would leave NO, and no other row of the table needs
+-- a test.
 use mathlib.Core.Path.{_≡_}
 use mathlib.Core.Bool.{Bool, true, false, _||_}
 use Rattle.negotiation.specs.declared.Standing.{Standing}

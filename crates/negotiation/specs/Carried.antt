@@ -24,7 +24,7 @@ use Rattle.negotiation.specs.declared.Asked.{Asked}
 use Rattle.negotiation.specs.declared.Asked.the-variants.{Already, Moves}
 use Rattle.negotiation.specs.Table.{isNo, heard, asked, isAlready}
 
--- the printer end carries his ECHO, SGA, RCTE, BM and our SGA, NAOCRD
+-- what the printer end carries: four options on his side, two on ours
 unfoldable pub printerSide : Whose → ℕ → Side
 printerSide His option =
     pick (eqb option ECHO) Echo

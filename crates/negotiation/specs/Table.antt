@@ -33,7 +33,7 @@ heardDisable WantYesOpposite = to No Silent
 unfoldable pub heard : Bool → Bool → Standing → Heard
 heard enable agreed q = pick enable (heardEnable agreed q) (heardDisable q)
 
--- the error rows are Already; an ask that only turns the queue is silent
+-- the error rows are Already; where only the queue changes, nothing is sent
 abbrev pub askEnable : Standing → Asked
 askEnable No = Moves WantYes Positive
 askEnable Yes = Already

@@ -135,7 +135,7 @@ fn ask_disable(q: Standing) -> Asked
     }
 }
 
-// What an ask makes of a side. An ask that only turns the queue moves it silently.
+// What an ask makes of a side. Where only the queue changes, nothing is sent.
 pub fn ask(enable: bool, q: Standing) -> Asked
     ensures { λ r. ⌜ r ≡ asked enable q ⌝ }
 {
@@ -187,7 +187,7 @@ pub fn still_on(q: Standing) -> bool
     }
 }
 
-// The sides that the printer end carries: his ECHO, SGA, RCTE, BM and our SGA, NAOCRD.
+// What the printer end carries: four options on his side, two on ours.
 pub fn printer_side(w: Whose, option: u8) -> Side
     ensures { λ r. ⌜ r ≡ printerSide w option ⌝ }
 {

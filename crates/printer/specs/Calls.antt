@@ -34,7 +34,7 @@ badKey (Char b) = false
 badKey Line = false
 badKey (Command c) = not (plainCommand c)
 
--- without RCTE a key is sent at once
+-- a key goes out as it is typed while RCTE is not in force
 abbrev pub keySent : Printer → Key → Did
 keySent s k = record { note = Clear; paper = sentPaper (echoOn s) k; wire = keyWire k; taken = sentAtOnce k ∷ []; state = s }
 
@@ -62,7 +62,7 @@ suggestCall s v paper wire =
     (refused s)
     (done (sends (frame (NAOCRD ∷ DR ∷ v ∷ [])) (withValues s (withDr (s .values) v))))
 
--- who handles carriage returns, and how; not in force reads as the receiver by 255
+-- who handles carriage returns, and how; while NAOCRD is not in force, the receiver with 255
 unfoldable pub returnsReport : Printer → Handling
 returnsReport s = pick (returnsOn s) (handling (s .values)) (Receiver 255)
 

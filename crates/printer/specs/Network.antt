@@ -86,7 +86,7 @@ abbrev pub valueRead : Printer → ValueBody → Did
 valueRead s ValueBody.Unreadable = notes Unreadable s
 valueRead s (ValueBody.Readable v) = nothing (withValues s (withDs (s .values) v))
 
--- checks on a body in order: marred or empty, another option, not in force, shape
+-- of a body neither marred nor empty: first its option, then whether it is in force, then its shape
 unfoldable pub optionRead : Printer → ℕ → List ℕ → Did
 optionRead s option body =
     pick (eqb option RCTE) (pick (rcteOn s) (rcteRead s (rcteBody body)) (notes Inactive s))
@@ -112,7 +112,7 @@ afterRead s r = itemRead (withReader s (r .reader)) (r .item)
 unfoldable pub byteRead : Printer → ℕ → Did
 byteRead s b = afterRead s (read (s .reader) b)
 
--- the bytes of a macro's text, each read as if from the network, none replaced
+-- the bytes of a macro's text, read like bytes that arrived, but none replaced
 unfoldable pub bytesRead : Printer → List ℕ → Did
 bytesRead s [] = nothing s
 bytesRead s (b ∷ bs) = let d = byteRead s b in followed d (bytesRead (d .state) bs)
@@ -121,6 +121,6 @@ abbrev pub entryRead : Printer → ℕ → Entry → Did
 entryRead s b plain = byteRead s b
 entryRead s b (text t) = bytesRead s t
 
--- with BM in force and the reader between commands, a defined byte is replaced by its text
+-- a defined byte stands for its text if BM is in force and no command is being read
 unfoldable pub networkRead : Printer → ℕ → Did
 networkRead s b = pick (macrosOn s && isBetween (s .reader .phase)) (entryRead s b (entryOf (s .table) b)) (byteRead s b)

@@ -52,7 +52,7 @@ echoOn s = isYes (s .sides .echo)
 abbrev pub returnsOn : Printer → Bool
 returnsOn s = isYes (s .sides .naocrd)
 
--- BM is in force at YES and both WANTNO states
+-- unlike the others, BM is in force also while it is asked to end (WANTNO)
 abbrev pub macrosOn : Printer → Bool
 macrosOn s = stillOn (s .sides .bm)
 

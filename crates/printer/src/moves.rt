@@ -31,7 +31,7 @@ pub fn quiet(s: Printer, note: Note) -> Step
     }
 }
 
-// RCTE's end: gathered bytes are sent, and all waiting keys sent and printed.
+// As RCTE ends: what was gathered goes out, then each waiting key, to paper as well.
 fn rcte_ended(s: Printer, paper: &mut [u8], wire: &mut [u8]) -> Step
     requires { ⌜ RoomFor (rcteMoved true false [] (viewPrinter s) .paper) (now paper) ⌝ }
     requires { ⌜ RoomFor (rcteMoved true false [] (viewPrinter s) .wire) (now wire) ⌝ }

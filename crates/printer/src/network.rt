@@ -103,7 +103,7 @@ fn text_read(s: Printer, text: Text, paper: &mut [u8], wire: &mut [u8]) -> Step
     }
 }
 
-// A byte that may be defined, with BM in force and the reader between commands.
+// A byte that may be defined; BM is in force and no command is being read.
 fn defined_read(s: Printer, b: u8, paper: &mut [u8], wire: &mut [u8]) -> Step
     requires { ⌜ RoomFor (entryRead (viewPrinter s) b (entryOf (viewPrinter s .table) b) .paper) (now paper) ⌝ }
     requires { ⌜ RoomFor (entryRead (viewPrinter s) b (entryOf (viewPrinter s .table) b) .wire) (now wire) ⌝ }
@@ -117,7 +117,7 @@ fn defined_read(s: Printer, b: u8, paper: &mut [u8], wire: &mut [u8]) -> Step
     byte_read(s, b, paper, wire)
 }
 
-// With BM in force and the reader between commands a defined byte is replaced.
+// A defined byte stands for its text if BM is in force and no command is being read.
 pub fn network_read(s: Printer, b: u8, paper: &mut [u8], wire: &mut [u8]) -> Step
     requires { ⌜ RoomFor (networkRead (viewPrinter s) b .paper) (now paper) ⌝ }
     requires { ⌜ RoomFor (networkRead (viewPrinter s) b .wire) (now wire) ⌝ }

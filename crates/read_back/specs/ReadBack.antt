@@ -22,8 +22,8 @@ use Rattle.bulletin.specs.State as B
 use Rattle.bulletin.specs.Calls.{textData, useData}
 use Rattle.bulletin.specs.Session as BS
 
--- BM is in force at both ends or at neither, and the printer end is between commands. Its table has the same text for each
--- byte that is accepted at the bulletin end, and none for each that is free there; of a byte pending or refused nothing is asked.
+-- Both ends have BM in force or neither has, and the printer end is reading no command. Its table has the bulletin end's
+-- text for every accepted byte, and none for a free one; of a pending or refused byte nothing is asked.
 pub record Agreed (b : B.Bulletin) (p : P.Printer) : Type 0 where
   pub macros : B.macrosOn b ≡ P.macrosOn p
   pub between : p .reader .phase ≡ Between

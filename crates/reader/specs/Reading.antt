@@ -28,7 +28,7 @@ idle = record { phase = Between; marred = false; body = [] }
 abbrev pub inPhase : Reader → Phase → Reader
 inPhase r p = record { phase = p; marred = r .marred; body = r .body }
 
--- the first 260 body bytes are kept
+-- how many bytes of a body are kept
 abbrev pub bodyRoom : ℕ
 bodyRoom = 260
 

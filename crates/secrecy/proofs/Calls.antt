@@ -102,7 +102,7 @@ unchanged n {ms} s c a h = record {
   sent = λ z v. record { same = record { count = refl; paper = same-tails refl; wire = same-tails refl }; gathered = z; evens = v };
 }
 
--- without RCTE a key is sent at once, so it was not replaced
+-- a key that goes out as it is typed is not quiet, so it was not replaced
 sent-kept : (n : Later) (m : Bool) (s : Printer) (k l : Key) (e f : Echo) → Beside m k l → Related [] e f
     → Quiets n (m ∷ []) (keySent (withEcho s e) k .taken) (keySent (withEcho s f) l .taken)
     → Kept n (m ∷ []) (e .gathered) (f .gathered) (done (keySent (withEcho s e) k)) (done (keySent (withEcho s f) l))

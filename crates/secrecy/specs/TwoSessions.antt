@@ -68,12 +68,12 @@ AllQuiet (m ∷ ms) (t ∷ ts) = QuietIf m t × AllQuiet ms ts
 abbrev pub QuietIn : List Bool → List Call → Type 0
 QuietIn ms cs = AllQuiet (ofAccepted ms cs (session cs)) (takeUps (session cs))
 
--- taken up under RCTE with its class in the TC pair in force
+-- as it was taken up under RCTE, the TC pair had its class
 abbrev pub isTransmission : How → Bool
 isTransmission atOnce = false
 isTransmission (under skiptext isBreak isSend) = isSend
 
--- a taken-up pair that agrees on being a transmission character and on its wire length
+-- of the two, both or neither are transmission characters, and both have as many bytes on the wire
 pub record Even (t u : TakeUp) : Type 0 where
   pub send : isTransmission (t .how) ≡ isTransmission (u .how)
   pub long : length (keyWire (t .key)) ≡ length (keyWire (u .key))

@@ -31,7 +31,7 @@ lentWire = 8192
 abbrev pub begun : Run
 begun = record { printer = fresh; paper = lentPaper; wire = lentWire }
 
--- a buffer is lent afresh before an item would meet code 1
+-- a buffer of which less is left than code 1 asks for is lent anew
 unfoldable pub lentFor : Run → Run
 lentFor r = record {
   printer = r .printer;
@@ -39,7 +39,7 @@ lentFor r = record {
   wire = pick (ltb (r .wire) wireRoom) lentWire (r .wire);
 }
 
--- (0, byte), (1, 0), (2, code); another pair is code 3
+-- a pair (0, b) is Char(b), (1, 0) is Line, (2, c) is Command(c); a pair of no such form is code 3
 unfoldable pub pairCall : Printer → ℕ → ℕ → ℕ → ℕ → Answer
 pairCall s kind v paper wire =
     pick (eqb kind 0) (keyCall s (Char v) paper wire)

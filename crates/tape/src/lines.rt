@@ -1,5 +1,5 @@
-// What is printed of a tape. Each encoder is handed the part of the output from the written count onward and fills its
-// start.
+// What is printed of a tape. Each encoder is handed the output behind what was written so far, and writes at its
+// beginning.
 ghost use mathlib.Core.Path.{_≡_};
 ghost use Prim.Native.Nat.{_<_};
 ghost use Rattle.lists.specs.Lists.{joined};

@@ -1,5 +1,5 @@
 // What is written on the wire: bytes with IAC doubled, negotiations, subnegotiation frames. Each encoder is handed the
-// part of the output from the written count onward and fills its start.
+// output behind what was written so far, and writes at its beginning.
 ghost use mathlib.Core.Path.{_≡_};
 ghost use lib.ListN.{length};
 ghost use Rattle.lists.specs.Buffers.{RoomFor, Wrote};

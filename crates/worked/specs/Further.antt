@@ -136,7 +136,7 @@ received =
     ∷ example (verdict fourTexts 132 (5 ∷ replicate 5 65)) (body (0x13 ∷ 0x03 ∷ 0x84 ∷ 0x02 ∷ []))
     ∷ example (verdict fourTexts 132 (6 ∷ replicate 5 65)) (body (0x13 ∷ 0x03 ∷ 0x84 ∷ 0x03 ∷ []))
     ∷ example (verdict fourTexts 131 (255 ∷ replicate 255 66)) (body (0x13 ∷ 0x02 ∷ 0x83 ∷ []))
-    -- a byte defined as itself counts 0, and is free
+    -- X defined as X counts 0, and is free
     ∷ example (verdict (defined fourTexts 132 (replicate 4 65)) 133 (1 ∷ 133 ∷ [])) (body (0x13 ∷ 0x02 ∷ 0x85 ∷ []))
     ∷ example (verdict (defined fourTexts 131 (131 ∷ [])) 132 (255 ∷ replicate 255 65)) (body (0x13 ∷ 0x02 ∷ 0x84 ∷ []))
     ∷ example (paperBehind (reads (macrosOn ++ defineHi ++ body (0x13 ∷ 0x01 ∷ 0x80 ∷ 0x01 ∷ 0x80 ∷ []))) (reads (0x80 ∷ []))) (0x80 ∷ [])
@@ -199,7 +199,7 @@ typed =
     -- a Command breaks, and prints nothing
     ∷ example (wireBehind (reads (rcteOn ++ body (0x07 ∷ 0x01 ∷ []))) (types (0x61 ∷ []) ++ commands 241 ++ types (0x62 ∷ []))) (0x61 ∷ 0xff ∷ 0xf1 ∷ [])
     ∷ example (paperBehind (reads (rcteOn ++ body (0x07 ∷ 0x01 ∷ []))) (types (0x61 ∷ []) ++ commands 241 ++ types (0x62 ∷ []))) (0x61 ∷ [])
-    -- bit 1 skips the break, bit 2 skips text
+    -- a break is skipped by bit 1, other keys by bit 2
     ∷ example (paperBehind (reads (rcteOn ++ body (0x07 ∷ 0x0b ∷ 0x00 ∷ 0x01 ∷ []))) (types (0x61 ∷ 0x41 ∷ []))) (0x61 ∷ [])
     ∷ example (paperBehind (reads (rcteOn ++ body (0x07 ∷ 0x0d ∷ 0x00 ∷ 0x01 ∷ []))) (types (0x61 ∷ 0x41 ∷ []))) (0x41 ∷ [])
     -- a transmission character sends and does not hold
@@ -215,7 +215,7 @@ typed =
     ∷ example (takenUp noOrders (replicate 511 97) (Char 98) .wire) []
     ∷ example (takenUp noOrders (replicate 511 97) Line .wire) (replicate 511 97)
     ∷ example (takenUp noOrders (replicate 511 97) Line .gathered) (0x0d ∷ 0x0a ∷ [])
-    -- 256 keys wait, the next is code 2, a bad Command code 3 first
+    -- the 257th key that would wait is code 2; a bad Command is code 3 even then
     ∷ example (codesBehind (reads rcteOn) (replicate 256 (PS.key Line 1024 2048) ++ typesLine ++ commands 250)) (replicate 256 0 ++ 2 ∷ 3 ∷ [])
     -- how keys are taken up: under RCTE, and at once where it ends
     ∷ example (howBehind skipsAll (types (0x61 ∷ 0x31 ∷ 0x41 ∷ 0x62 ∷ []) ++ reads (0xff ∷ 0xfc ∷ 0x07 ∷ []) ++ types (0x61 ∷ []))) (map howNumber (under true false true ∷ under true false false ∷ under true true false ∷ atOnce ∷ atOnce ∷ []))
@@ -251,7 +251,7 @@ nulIsMacro = macrosAgreed ++ define 0 (0x41 ∷ []) ++ hears (body (0x13 ∷ 0x0
 
 abbrev pub sent : List Example
 sent =
-    -- data 255 is stored as two bytes and doubled again: the count is 3
+    -- a 255 is stored twice, and each of the two is sent twice: the count is 3
     example (sentBehind macrosAgreed (define 128 (0x48 ∷ 0xff ∷ []))) (body (0x13 ∷ 0x01 ∷ 0x80 ∷ 0x03 ∷ 0x48 ∷ 0xff ∷ 0xff ∷ 0xff ∷ 0xff ∷ []))
     -- pending: not used, not defined again, sent as LITERAL
     ∷ example (sentCodesBehind defined80 (uses 128 ++ define 128 (0x41 ∷ []) ++ text (Char 128))) (10 ∷ 9 ∷ 0 ∷ [])
@@ -292,7 +292,7 @@ sent =
     ∷ example (sentBehind [] (text (Char 255) ++ text (Char 13) ++ text (Command 241) ++ text (Command 240))) (0xff ∷ 0xff ∷ 0x0d ∷ 0x00 ∷ 0xff ∷ 0xf1 ∷ [])
     ∷ example (sentCodesBehind [] (text (Command 240) ++ text (Command 241))) (3 ∷ 0 ∷ [])
     ∷ example (hostBehind [] (hears (0x41 ∷ 0xff ∷ 0xff ∷ 0xff ∷ 0xf1 ∷ [])) ++ sentBehind [] (hears (0x41 ∷ 0xff ∷ 0xff ∷ 0xff ∷ 0xf1 ∷ []))) (0x41 ∷ 0xff ∷ [])
-    -- orders: class bytes only where their bit is on, 255 doubled; 0 or an odd cmd up to 31
+    -- orders: class bytes only where their bit is on, 255 doubled; cmd 2 and 33 are not allowed
     ∷ example (sentBehind (hears (0xff ∷ 0xfd ∷ 0x07 ∷ [])) (orders 9 511 3 ++ orders 25 1 2 ++ orders 0 1 2)) (body (0x07 ∷ 0x09 ∷ 0x01 ∷ 0xff ∷ 0xff ∷ []) ++ body (0x07 ∷ 0x19 ∷ 0x00 ∷ 0x01 ∷ 0x00 ∷ 0x02 ∷ []) ++ body (0x07 ∷ 0x00 ∷ []))
     ∷ example (sentCodesBehind (hears (0xff ∷ 0xfd ∷ 0x07 ∷ [])) (orders 2 0 0 ++ orders 31 0 0 ++ orders 33 0 0)) (12 ∷ 0 ∷ 12 ∷ [])
     ∷ []
