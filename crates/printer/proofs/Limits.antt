@@ -26,7 +26,7 @@ use Rattle.macros.specs.Texts.{Entry, plain, text, entryOf}
 use Rattle.echo.specs.Control.{isFull, pressed}
 use Rattle.disposition.specs.Returns.{withDr}
 use Rattle.printer.specs.State.{Printer, fresh, rcteOn, echoOn, returnsOn, macrosOn, Did, nothing, Answer, done, refused}
-use Rattle.printer.specs.Network.{sideMoved, byteRead, bytesRead, entryRead, networkRead}
+use Rattle.printer.specs.Network.{replied, byteRead, bytesRead, entryRead, networkRead}
 use Rattle.printer.specs.Calls.{networkCall, badKey, keyTyped, keyCall, askCall, suggestCall}
 use Rattle.printer.specs.Session.{Call, network, key, ask, suggest, called, answersFrom}
 use Rattle.printer.specs.Limits.{textLimit, Sized, InBytes, Limited, Fits, NetworkFits, KeyFits, MoveFits, SuggestionFits, CallFits, FreshLimited, NetworkKeeps, KeyKeeps, MoveKeeps, OfBytes, CallKeeps, Within, SessionWithin}
@@ -35,7 +35,7 @@ use Rattle.printer.proofs.LimitsEcho.{key-paper, key-wire, presses}
 use Rattle.printer.proofs.LimitsReader.{credit, no-credit, credit-within}
 use Rattle.negotiation.proofs.Replies.{reply-long}
 use Rattle.wire.proofs.Coded.{coded-long}
-use Rattle.printer.proofs.LimitsNetwork.{with-values, with-echo, Step, moves, byte-step, bytes-step}
+use Rattle.printer.proofs.LimitsNetwork.{with-values, with-echo, Step, moves, replies, byte-step, bytes-step}
 
 -- a step that is within these fits
 step-fits : {H : Type 0} {p n : ℕ} {d : Did} (s : Printer) → Sized s → p ≤ textLimit → credit (s .reader) + n ≤ 529 → Step (s .echo) (s .reader) p n H d → Fits d
@@ -94,10 +94,10 @@ key-keeps s k f h =
 
 pub move-fits : MoveFits
 move-fits s side q reply l z =
-    step-fits s z (lit≤ tt) (omega (arith, credit-within (s .reader .phase) (s .reader .body) (z .body))) (moves 3 s side q reply l)
+    step-fits s z (lit≤ tt) (omega (arith, credit-within (s .reader .phase) (s .reader .body) (z .body))) (replies 3 s side q reply l)
 
 pub move-keeps : MoveKeeps
-move-keeps s side q reply h = moves (length reply) s side q reply (omega arith) .kept h
+move-keeps s side q h = moves s side q .kept h
 
 pub suggestion-fits : SuggestionFits
 unfolding frame joined
@@ -114,11 +114,11 @@ module _ (s : Printer) (c : Call) where
 
   -- an ask moves the side that it is about, or none
   asks : (whose : Whose) (option : ℕ) (side : Side) (enable : Bool) (a : Asked)
-      → Answered s c (done (askedTo (s .sides) whose option side enable (λ q reply. sideMoved s side q reply) (nothing s) a))
+      → Answered s c (done (askedTo (s .sides) whose option side enable (λ q reply. replied s side q reply) (nothing s) a))
   asks whose option side enable Already = record { fits = λ z. record { paper = lit≤ tt; wire = lit≤ tt }; kept = λ b h. h }
   asks whose option side enable (Moves q r) = record {
     fits = move-fits s side q (replyBytes whose r option) (reply-long whose r option);
-    kept = λ b h. move-keeps s side q (replyBytes whose r option) h;
+    kept = λ b h. move-keeps s side q h;
   }
 
 answers : (s : Printer) (c : Call) → Answered s c (called s c)

@@ -45,8 +45,8 @@ use Rattle.echo.specs.Control as control
 use Rattle.echo.specs.Control.{Echoed, waitRoom, started, holding, commanded, ordersNow, ended}
 use Rattle.disposition.specs.declared.Values.{Values}
 use Rattle.disposition.specs.Returns.{unspoken, withDs}
-use Rattle.printer.specs.State.{Printer, withSides, withReader, withTable, withEcho, withValues, rcteOn, echoOn, returnsOn, macrosOn, Did, sends, notes, printing, echoing}
-use Rattle.printer.specs.Network.{dataRead, rcteMoved, sideMoved, sideHeard, negotiationRead, rcteRead, verdictBytes, macroRead, valueRead, optionRead, bodyRead, itemRead, byteRead, bytesRead}
+use Rattle.printer.specs.State.{Printer, withSides, withReader, withTable, withEcho, withValues, rcteOn, echoOn, returnsOn, macrosOn, Did, sends, nothing, notes, printing, echoing}
+use Rattle.printer.specs.Network.{dataRead, rcteMoved, sideMoved, replied, sideHeard, negotiationRead, rcteRead, verdictBytes, macroRead, valueRead, optionRead, bodyRead, itemRead, byteRead, bytesRead}
 use Rattle.printer.specs.Limits.{textLimit, InBytes, Limited}
 use Rattle.macros.specs.Packed.{textOf}
 use Rattle.printer.proofs.LimitsEcho.{Spends, releases, ends}
@@ -114,42 +114,47 @@ module _ {H : Type 0} (n : ℕ) (s : Printer) (h : H → Limited s) where
       (record { paper = omega arith; wire = omega arith; kept = λ y. with-echo (h y) (holding (s .echo)) (h y .sized .waiting) (h y .sized .gathered) })
       (record { paper = omega arith; wire = omega arith; kept = h })
 
-  echo-step : (bytes : List ℕ) (e : Echoed) → length bytes ≤ n → Spends (s .echo .gathered) (s .echo .waiting) e
-      → Step (s .echo) (s .reader) 1 n H (echoing bytes e s)
-  echo-step bytes e l p = record {
+  echo-step : (e : Echoed) → Spends (s .echo .gathered) (s .echo .waiting) e → Step (s .echo) (s .reader) 1 n H (echoing e s)
+  echo-step e p = record {
     paper = omega (arith, p .paper);
-    wire = simp length-append (omega (arith, p .wire));
+    wire = omega (arith, p .wire);
     kept = λ y. with-echo (h y) (e .echo) (omega (arith, p .paper, h y .sized .waiting)) (p .room (h y .sized .gathered));
   }
 
-  rcte-moved : (was is : Bool) (reply : List ℕ) → length reply ≤ n → Step (s .echo) (s .reader) 1 n H (rcteMoved was is reply s)
-  rcte-moved true true reply l = sending reply l
-  rcte-moved true false reply l = echo-step reply (ended (echoOn s) (s .echo)) l (ends (echoOn s) (s .echo))
-  rcte-moved false true reply l = record { paper = omega arith; wire = omega arith; kept = λ y. with-echo (h y) started (lit≤ tt) (lit≤ tt) }
-  rcte-moved false false reply l = sending reply l
+  rcte-moved : (was is : Bool) → Step (s .echo) (s .reader) 1 n H (rcteMoved was is s)
+  rcte-moved true true = sending [] (omega arith)
+  rcte-moved true false = echo-step (ended (echoOn s) (s .echo)) (ends (echoOn s) (s .echo))
+  rcte-moved false true = record { paper = omega arith; wire = omega arith; kept = λ y. with-echo (h y) started (lit≤ tt) (lit≤ tt) }
+  rcte-moved false false = sending [] (omega arith)
 
-turns : (n : ℕ) (s : Printer) (x : Sides) (reply : List ℕ) → length reply ≤ n → Step (s .echo) (s .reader) 1 n (Limited s) (sends reply (withSides s x))
-turns n s x reply l = sending n (withSides s x) (λ h. with-sides h x) reply l
+turns : (s : Printer) (x : Sides) → Step (s .echo) (s .reader) 1 0 (Limited s) (nothing (withSides s x))
+turns s x = sending 0 (withSides s x) (λ h. with-sides h x) [] (omega arith)
 
 -- a side's standing changes: RCTE may end, BM's table may be emptied
-pub moves : (n : ℕ) (s : Printer) (side : Side) (q : Standing) (reply : List ℕ) → length reply ≤ n → Step (s .echo) (s .reader) 1 n (Limited s) (sideMoved s side q reply)
+pub moves : (s : Printer) (side : Side) (q : Standing) → Step (s .echo) (s .reader) 1 0 (Limited s) (sideMoved s side q)
 unfolding sideMoved
-moves n s Rcte q reply l =
+moves s Rcte q =
     let x = moved (s .sides) Rcte q in
-    rcte-moved n (withSides s x) (λ h. with-sides h x) (rcteOn s) (isYes q) reply l
-moves n s Macro q reply l =
+    rcte-moved 0 (withSides s x) (λ h. with-sides h x) (rcteOn s) (isYes q)
+moves s Macro q =
     let x = moved (s .sides) Macro q in
     let t = pick (stillOn q) (s .table) noMacros in
     let none : AllShort noMacros = every-replicate (λ e. Short (textOf e)) plain 256 plain no-text no-text in
-    sending n (withTable (withSides s x) t) (λ h. with-table (with-sides h x) t (either AllShort (stillOn q) (texts-of h) none)) reply l
-moves n s Returns q reply l =
+    sending 0 (withTable (withSides s x) t) (λ h. with-table (with-sides h x) t (either AllShort (stillOn q) (texts-of h) none)) [] (omega arith)
+moves s Returns q =
     let x = moved (s .sides) Returns q in
     let v = pick (isYes q) (s .values) unspoken in
-    sending n (withValues (withSides s x) v) (λ h. with-values (with-sides h x) v) reply l
-moves n s Echo q reply l = turns n s (moved (s .sides) Echo q) reply l
-moves n s BulletinSga q reply l = turns n s (moved (s .sides) BulletinSga q) reply l
-moves n s PrinterSga q reply l = turns n s (moved (s .sides) PrinterSga q) reply l
-moves n s Uncarried q reply l = sending n s (λ h. h) reply l
+    sending 0 (withValues (withSides s x) v) (λ h. with-values (with-sides h x) v) [] (omega arith)
+moves s Echo q = turns s (moved (s .sides) Echo q)
+moves s BulletinSga q = turns s (moved (s .sides) BulletinSga q)
+moves s PrinterSga q = turns s (moved (s .sides) PrinterSga q)
+moves s Uncarried q = sending 0 s (λ h. h) [] (omega arith)
+
+pub replies : (n : ℕ) (s : Printer) (side : Side) (q : Standing) (reply : List ℕ) → length reply ≤ n
+    → Step (s .echo) (s .reader) 1 n (Limited s) (replied s side q reply)
+replies n s side q reply l =
+    let m = moves s side q in
+    record { paper = m .paper; wire = simp length-append (omega (arith, m .wire)); kept = m .kept }
 
 negotiates : (s : Printer) (v : Verb) (option : ℕ) → Step (s .echo) (s .reader) 1 3 (Limited s) (negotiationRead s v option)
 unfolding negotiationRead sideHeard heardBy
@@ -158,7 +163,7 @@ negotiates s v option =
     let side = printerSide whose option in
     let h = heard (enables v) (free (s .sides) side) (standing (s .sides) side) in
     either (Step (s .echo) (s .reader) 1 3 (Limited s)) (isCarried side)
-    (moves 3 s side (h .next) (replyBytes whose (h .reply) option) (reply-long whose (h .reply) option))
+    (replies 3 s side (h .next) (replyBytes whose (h .reply) option) (reply-long whose (h .reply) option))
     (sending 3 s (λ y. y) (replyBytes whose (declined (enables v)) option) (reply-long whose (declined (enables v)) option))
 
 -- a DEFINE that is accepted has a text as long as its count says
@@ -188,7 +193,7 @@ module _ {H : Type 0} (n : ℕ) (ten : 10 ≤ n) (s : Printer) (h : H → Limite
   rctes RcteBody.Unreadable = noting n s h Unreadable
   rctes (RcteBody.Readable c) =
       let e = s .echo in
-      echo-step n s h [] (commanded e c) (omega arith) (releases (ordersNow c (e .orders)) (e .gathered) (e .waiting))
+      echo-step n s h (commanded e c) (releases (ordersNow c (e .orders)) (e .gathered) (e .waiting))
 
   macros : (body : List ℕ) (b : MacroBody) → (H → InBytes body) → Step (s .echo) (s .reader) 1 n H (macroRead s body b)
   macros body MacroBody.Unreadable i = noting n s h Unreadable

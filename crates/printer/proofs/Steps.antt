@@ -18,30 +18,6 @@ use Rattle.negotiation.specs.Carried.{moved}
 use Rattle.printer.specs.State.{Printer, Did, sends, nothing, followed, rcteOn, withSides}
 use Rattle.printer.specs.Network.{rcteMoved, sideMoved, byteRead, bytesRead}
 
--- bytes that go out before a step's own
-abbrev pub behind : List ℕ → Did → Did
-behind bytes d = record { note = d .note; paper = d .paper; wire = bytes ++ d .wire; taken = d .taken; state = d .state }
-
-sent-alone : (reply : List ℕ) (s : Printer) → sends reply s ≡ behind reply (nothing s)
-sent-alone reply s = rw (append-nil reply)
-
-rcte-behind : (was on : Bool) (reply : List ℕ) (s : Printer) → rcteMoved was on reply s ≡ behind reply (rcteMoved was on [] s)
-rcte-behind true true reply s = sent-alone reply s
-rcte-behind true false reply s = refl
-rcte-behind false true reply s = rw (append-nil reply)
-rcte-behind false false reply s = sent-alone reply s
-
--- a side moves the same way behind every reply
-pub moved-behind : (s : Printer) (side : Side) (q : Standing) (reply : List ℕ) → sideMoved s side q reply ≡ behind reply (sideMoved s side q [])
-unfolding sideMoved
-moved-behind s Rcte q reply = rcte-behind (rcteOn s) (isYes q) reply _
-moved-behind s Macro q reply = sent-alone reply _
-moved-behind s Returns q reply = sent-alone reply _
-moved-behind s Echo q reply = sent-alone reply _
-moved-behind s BulletinSga q reply = sent-alone reply _
-moved-behind s PrinterSga q reply = sent-alone reply _
-moved-behind s Uncarried q reply = sent-alone reply s
-
 first-assoc : (a b c : Note) → firstNote (firstNote a b) c ≡ firstNote a (firstNote b c)
 first-assoc Clear b c = refl
 first-assoc Unreadable b c = refl
@@ -80,7 +56,7 @@ text-done acc = rw (first-clear (acc .note), append-nil (acc .paper), append-nil
 
 -- RCTE leaves YES
 pub rcte-ends : (s : Printer) (q : Standing) (x : Sides) → rcteOn s ≡ true → isYes q ≡ false → x ≡ moved (s .sides) Rcte q
-    → sideMoved s Rcte q [] ≡ rcteMoved true false [] (withSides s x)
+    → sideMoved s Rcte q ≡ rcteMoved true false (withSides s x)
 unfolding sideMoved
 rcte-ends s q x was on e =
-    rw (was, on) (ap (λ (y : Sides). rcteMoved true false [] (withSides s y)) (sym e))
+    rw (was, on) (ap (λ (y : Sides). rcteMoved true false (withSides s y)) (sym e))

@@ -24,7 +24,7 @@ use Rattle.disposition.specs.declared.Handling.{Handling}
 use Rattle.disposition.specs.declared.Handling.the-variants.{Receiver}
 use Rattle.disposition.specs.Returns.{withDr, handling}
 use Rattle.printer.specs.State.{Printer, withValues, rcteOn, echoOn, returnsOn, Did, sends, nothing, echoing, Answer, done, refused}
-use Rattle.printer.specs.Network.{networkRead, sideMoved}
+use Rattle.printer.specs.Network.{networkRead, replied}
 
 unfoldable pub networkCall : Printer → ℕ → ℕ → ℕ → Answer
 networkCall s b paper wire = guarded (when (noRoom paper wire) NoRoom ∷ []) (refused s) (done (networkRead s b))
@@ -39,7 +39,7 @@ abbrev pub keySent : Printer → Key → Did
 keySent s k = record { note = Clear; paper = sentPaper (echoOn s) k; wire = keyWire k; taken = sentAtOnce k ∷ []; state = s }
 
 unfoldable pub keyTyped : Printer → Key → Did
-keyTyped s k = pick (rcteOn s) (echoing [] (pressed (s .echo) k) s) (keySent s k)
+keyTyped s k = pick (rcteOn s) (echoing (pressed (s .echo) k) s) (keySent s k)
 
 unfoldable pub keyCall : Printer → Key → ℕ → ℕ → Answer
 keyCall s k paper wire =
@@ -50,7 +50,7 @@ keyCall s k paper wire =
 abbrev pub askOf : Printer → ℕ → Whose → Side → Bool → ℕ → ℕ → Answer
 askOf s option whose side enable paper wire =
     guarded (when (noRoom paper wire) NoRoom ∷ askGuards (s .sides) side enable) (refused s)
-    (done (askedBy (s .sides) whose option side enable (λ q reply. sideMoved s side q reply) (nothing s)))
+    (done (askedBy (s .sides) whose option side enable (λ q reply. replied s side q reply) (nothing s)))
 
 unfoldable pub askCall : Printer → ℕ → ℕ → ℕ → ℕ → Answer
 askCall s option way paper wire = askOf s option (askedWhose way) (askedSide printerSide option way) (askedEnable way) paper wire

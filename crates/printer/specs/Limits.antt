@@ -16,7 +16,7 @@ use Rattle.macros.specs.Packed.{textOf}
 use Rattle.echo.specs.Taking.{gatherRoom}
 use Rattle.echo.specs.Control.{waitRoom, isFull}
 use Rattle.printer.specs.State.{Printer, fresh, rcteOn, Did, Answer}
-use Rattle.printer.specs.Network.{sideMoved, networkRead}
+use Rattle.printer.specs.Network.{sideMoved, replied, networkRead}
 use Rattle.printer.specs.Calls.{keyTyped}
 use Rattle.printer.specs.Session.{Call, network, key, ask, suggest, called, session}
 
@@ -56,7 +56,7 @@ KeyFits = (s : Printer) (k : Key) → Sized s → Fits (keyTyped s k)
 
 -- a reply or a request is three bytes at most
 abbrev pub MoveFits : Type 0
-MoveFits = (s : Printer) (side : Side) (q : Standing) (reply : List ℕ) → length reply ≤ 3 → Sized s → Fits (sideMoved s side q reply)
+MoveFits = (s : Printer) (side : Side) (q : Standing) (reply : List ℕ) → length reply ≤ 3 → Sized s → Fits (replied s side q reply)
 
 abbrev pub SuggestionFits : Type 0
 SuggestionFits = (v : ℕ) → length (frame (NAOCRD ∷ DR ∷ v ∷ [])) ≤ wireRoom
@@ -75,7 +75,7 @@ abbrev pub KeyKeeps : Type 0
 KeyKeeps = (s : Printer) (k : Key) → (rcteOn s && isFull (s .echo)) ≡ false → Limited s → Limited (keyTyped s k .state)
 
 abbrev pub MoveKeeps : Type 0
-MoveKeeps = (s : Printer) (side : Side) (q : Standing) (reply : List ℕ) → Limited s → Limited (sideMoved s side q reply .state)
+MoveKeeps = (s : Printer) (side : Side) (q : Standing) → Limited s → Limited (sideMoved s side q .state)
 
 -- a network byte is one byte
 abbrev pub OfBytes : Call → Type 0

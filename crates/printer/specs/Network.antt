@@ -32,7 +32,7 @@ use Rattle.macros.specs.declared.Verdict.the-variants.{Accepted, Refused}
 use Rattle.macros.specs.Texts.{Entry, plain, text, noMacros, entryOf, judged, afterDefine}
 use Rattle.echo.specs.Control.{started, holding, commanded, ended}
 use Rattle.disposition.specs.Returns.{unspoken, withDs}
-use Rattle.printer.specs.State.{Printer, withSides, withReader, withTable, withEcho, withValues, rcteOn, echoOn, returnsOn, macrosOn, Did, sends, nothing, notes, printing, echoing, followed}
+use Rattle.printer.specs.State.{Printer, withSides, withReader, withTable, withEcho, withValues, rcteOn, echoOn, returnsOn, macrosOn, Did, sends, nothing, notes, printing, echoing, behind, followed}
 
 -- data is printed as it is; under RCTE it then holds
 abbrev pub afterData : Printer → Printer
@@ -41,25 +41,29 @@ afterData s = pick (rcteOn s) (withEcho s (holding (s .echo))) s
 unfoldable pub dataRead : Printer → ℕ → Did
 dataRead s b = printing (b ∷ []) (afterData s)
 
--- RCTE's standing changed: it ends as it leaves YES, behind the reply, and starts anew as it reaches YES
-abbrev pub rcteMoved : Bool → Bool → List ℕ → Printer → Did
-rcteMoved true true reply s = sends reply s
-rcteMoved true false reply s = echoing reply (ended (echoOn s) (s .echo)) s
-rcteMoved false true reply s = sends reply (withEcho s started)
-rcteMoved false false reply s = sends reply s
+-- RCTE's standing changed: it ends as it leaves YES, and starts anew as it reaches YES
+abbrev pub rcteMoved : Bool → Bool → Printer → Did
+rcteMoved true true s = nothing s
+rcteMoved true false s = echoing (ended (echoOn s) (s .echo)) s
+rcteMoved false true s = nothing (withEcho s started)
+rcteMoved false false s = nothing s
 
--- a side's standing changed, with what follows from it; reply is the bytes that the negotiation sends
-unfoldable pub sideMoved : Printer → Side → Standing → List ℕ → Did
-sideMoved s Rcte q reply = rcteMoved (rcteOn s) (isYes q) reply (withSides s (moved (s .sides) Rcte q))
-sideMoved s Macro q reply = sends reply (withTable (withSides s (moved (s .sides) Macro q)) (pick (stillOn q) (s .table) noMacros))
-sideMoved s Returns q reply = sends reply (withValues (withSides s (moved (s .sides) Returns q)) (pick (isYes q) (s .values) unspoken))
-sideMoved s Echo q reply = sends reply (withSides s (moved (s .sides) Echo q))
-sideMoved s BulletinSga q reply = sends reply (withSides s (moved (s .sides) BulletinSga q))
-sideMoved s PrinterSga q reply = sends reply (withSides s (moved (s .sides) PrinterSga q))
-sideMoved s Uncarried q reply = sends reply s
+-- a side's standing changed, with what follows from it
+unfoldable pub sideMoved : Printer → Side → Standing → Did
+sideMoved s Rcte q = rcteMoved (rcteOn s) (isYes q) (withSides s (moved (s .sides) Rcte q))
+sideMoved s Macro q = nothing (withTable (withSides s (moved (s .sides) Macro q)) (pick (stillOn q) (s .table) noMacros))
+sideMoved s Returns q = nothing (withValues (withSides s (moved (s .sides) Returns q)) (pick (isYes q) (s .values) unspoken))
+sideMoved s Echo q = nothing (withSides s (moved (s .sides) Echo q))
+sideMoved s BulletinSga q = nothing (withSides s (moved (s .sides) BulletinSga q))
+sideMoved s PrinterSga q = nothing (withSides s (moved (s .sides) PrinterSga q))
+sideMoved s Uncarried q = nothing s
+
+-- the bytes of the negotiation go before what it brings about
+abbrev pub replied : Printer → Side → Standing → List ℕ → Did
+replied s side q reply = behind reply (sideMoved s side q)
 
 unfoldable pub sideHeard : Printer → Whose → Bool → ℕ → Side → Did
-sideHeard s whose enable option side = heardBy (s .sides) whose option side enable (λ q reply. sideMoved s side q reply) (λ bytes. sends bytes s)
+sideHeard s whose enable option side = heardBy (s .sides) whose option side enable (λ q reply. replied s side q reply) (λ bytes. sends bytes s)
 
 unfoldable pub negotiationRead : Printer → Verb → ℕ → Did
 negotiationRead s v option = sideHeard s (whoseOf v) (enables v) option (printerSide (whoseOf v) option)
@@ -67,7 +71,7 @@ negotiationRead s v option = sideHeard s (whoseOf v) (enables v) option (printer
 -- the bodies; each of these is reached with the option in force
 abbrev pub rcteRead : Printer → RcteBody → Did
 rcteRead s RcteBody.Unreadable = notes Unreadable s
-rcteRead s (RcteBody.Readable c) = echoing [] (commanded (s .echo) c) s
+rcteRead s (RcteBody.Readable c) = echoing (commanded (s .echo) c) s
 
 -- ACCEPT is 19, 2, X; REFUSE is 19, 3, X, reason
 abbrev pub verdictBytes : Verdict → ℕ → List ℕ

@@ -76,9 +76,13 @@ notes n s = record { note = n; paper = []; wire = []; taken = []; state = s }
 abbrev pub printing : List ℕ → Printer → Did
 printing bytes s = record { note = Clear; paper = bytes; wire = []; taken = []; state = s }
 
--- what RCTE's control did, behind bytes that go first
-abbrev pub echoing : List ℕ → Echoed → Printer → Did
-echoing bytes e s = record { note = Clear; paper = e .paper; wire = bytes ++ e .wire; taken = e .taken; state = withEcho s (e .echo) }
+-- what RCTE's control did
+abbrev pub echoing : Echoed → Printer → Did
+echoing e s = record { note = Clear; paper = e .paper; wire = e .wire; taken = e .taken; state = withEcho s (e .echo) }
+
+-- a step's bytes behind others that go first
+abbrev pub behind : List ℕ → Did → Did
+behind bytes d = record { note = d .note; paper = d .paper; wire = bytes ++ d .wire; taken = d .taken; state = d .state }
 
 -- one step and then another: the first note counts
 abbrev pub followed : Did → Did → Did

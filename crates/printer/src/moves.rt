@@ -1,10 +1,9 @@
 // Negotiation: what is heard, and what follows as a side's standing changes.
 ghost use mathlib.Core.Path.{_≡_};
-ghost use mathlib.Core.List.{[]};
 ghost use Rattle.lists.specs.Buffers.{RoomFor};
 ghost use Rattle.negotiation.specs.Carried.{replyBytes};
 ghost use Rattle.negotiation.specs.declared.Side.the-variants.{Rcte, Macro, Returns};
-ghost use Rattle.printer.specs.Network.{rcteMoved, sideMoved, negotiationRead};
+ghost use Rattle.printer.specs.Network.{rcteMoved, sideMoved, replied, negotiationRead};
 ghost use mathlib.Core.Bool.{true, false};
 ghost use Rattle.printer.specs.Kept.{viewPrinter, sidesMoved, MetStep, MetQuiet, Quiet};
 ghost use Rattle.codes.specs.declared.Note.the-variants.{Clear};
@@ -33,9 +32,9 @@ pub fn quiet(s: Printer, note: Note) -> Step
 
 // As RCTE ends: what was gathered goes out, then each waiting key, to paper as well.
 fn rcte_ended(s: Printer, paper: &mut [u8], wire: &mut [u8]) -> Step
-    requires { ⌜ RoomFor (rcteMoved true false [] (viewPrinter s) .paper) (now paper) ⌝ }
-    requires { ⌜ RoomFor (rcteMoved true false [] (viewPrinter s) .wire) (now wire) ⌝ }
-    ensures { λ r. ⌜ MetStep (rcteMoved true false [] (viewPrinter s)) s (now (paper .entry)) (now (paper .exit)) (now (wire .entry)) (now (wire .exit)) r ⌝ }
+    requires { ⌜ RoomFor (rcteMoved true false (viewPrinter s) .paper) (now paper) ⌝ }
+    requires { ⌜ RoomFor (rcteMoved true false (viewPrinter s) .wire) (now wire) ⌝ }
+    ensures { λ r. ⌜ MetStep (rcteMoved true false (viewPrinter s)) s (now (paper .entry)) (now (paper .exit)) (now (wire .entry)) (now (wire .exit)) r ⌝ }
 {
     let sides = s.sides;
     let echoed = on::echo(sides);
@@ -54,9 +53,9 @@ fn rcte_ended(s: Printer, paper: &mut [u8], wire: &mut [u8]) -> Step
 
 // RCTE ends as it leaves YES, and starts anew as it reaches YES.
 fn rcte_moved(s: Printer, q: Standing, paper: &mut [u8], wire: &mut [u8]) -> Step
-    requires { ⌜ RoomFor (sideMoved (viewPrinter s) Rcte q [] .paper) (now paper) ⌝ }
-    requires { ⌜ RoomFor (sideMoved (viewPrinter s) Rcte q [] .wire) (now wire) ⌝ }
-    ensures { λ r. ⌜ MetStep (sideMoved (viewPrinter s) Rcte q []) s (now (paper .entry)) (now (paper .exit)) (now (wire .entry)) (now (wire .exit)) r ⌝ }
+    requires { ⌜ RoomFor (sideMoved (viewPrinter s) Rcte q .paper) (now paper) ⌝ }
+    requires { ⌜ RoomFor (sideMoved (viewPrinter s) Rcte q .wire) (now wire) ⌝ }
+    ensures { λ r. ⌜ MetStep (sideMoved (viewPrinter s) Rcte q) s (now (paper .entry)) (now (paper .exit)) (now (wire .entry)) (now (wire .exit)) r ⌝ }
 {
     let old = s.sides;
     let was = on::rcte(old);
@@ -80,7 +79,7 @@ fn rcte_moved(s: Printer, q: Standing, paper: &mut [u8], wire: &mut [u8]) -> Ste
 
 // The macros are forgotten as BM is no longer in force.
 fn macro_moved(s: Printer, q: Standing) -> Printer
-    ensures { λ r. ⌜ MetQuiet (sideMoved (viewPrinter s) Macro q []) s r ⌝ }
+    ensures { λ r. ⌜ MetQuiet (sideMoved (viewPrinter s) Macro q) s r ⌝ }
 {
     let old = s.sides;
     let sides = negotiation::moved(old, Side::Macro, q);
@@ -96,7 +95,7 @@ fn macro_moved(s: Printer, q: Standing) -> Printer
 
 // Both values are forgotten as NAOCRD is no longer in force.
 fn returns_moved(s: Printer, q: Standing) -> Printer
-    ensures { λ r. ⌜ MetQuiet (sideMoved (viewPrinter s) Returns q []) s r ⌝ }
+    ensures { λ r. ⌜ MetQuiet (sideMoved (viewPrinter s) Returns q) s r ⌝ }
 {
     let old = s.sides;
     let sides = negotiation::moved(old, Side::Returns, q);
@@ -112,9 +111,9 @@ fn returns_moved(s: Printer, q: Standing) -> Printer
 
 // A side's standing changes, with what follows from it; the reply is written before this.
 fn side_moved(s: Printer, side: Side, q: Standing, paper: &mut [u8], wire: &mut [u8]) -> Step
-    requires { ⌜ RoomFor (sideMoved (viewPrinter s) side q [] .paper) (now paper) ⌝ }
-    requires { ⌜ RoomFor (sideMoved (viewPrinter s) side q [] .wire) (now wire) ⌝ }
-    ensures { λ r. ⌜ MetStep (sideMoved (viewPrinter s) side q []) s (now (paper .entry)) (now (paper .exit)) (now (wire .entry)) (now (wire .exit)) r ⌝ }
+    requires { ⌜ RoomFor (sideMoved (viewPrinter s) side q .paper) (now paper) ⌝ }
+    requires { ⌜ RoomFor (sideMoved (viewPrinter s) side q .wire) (now wire) ⌝ }
+    ensures { λ r. ⌜ MetStep (sideMoved (viewPrinter s) side q) s (now (paper .entry)) (now (paper .exit)) (now (wire .entry)) (now (wire .exit)) r ⌝ }
 {
     match side {
         Side::Rcte => rcte_moved(s, q, paper, wire),
@@ -155,9 +154,9 @@ pub fn replied(
     paper: &mut [u8],
     wire: &mut [u8],
 ) -> Step
-    requires { ⌜ RoomFor (sideMoved (viewPrinter s) side q (replyBytes whose reply option) .paper) (now paper) ⌝ }
-    requires { ⌜ RoomFor (sideMoved (viewPrinter s) side q (replyBytes whose reply option) .wire) (now wire) ⌝ }
-    ensures { λ r. ⌜ MetStep (sideMoved (viewPrinter s) side q (replyBytes whose reply option)) s (now (paper .entry)) (now (paper .exit)) (now (wire .entry)) (now (wire .exit)) r ⌝ }
+    requires { ⌜ RoomFor (replied (viewPrinter s) side q (replyBytes whose reply option) .paper) (now paper) ⌝ }
+    requires { ⌜ RoomFor (replied (viewPrinter s) side q (replyBytes whose reply option) .wire) (now wire) ⌝ }
+    ensures { λ r. ⌜ MetStep (replied (viewPrinter s) side q (replyBytes whose reply option)) s (now (paper .entry)) (now (paper .exit)) (now (wire .entry)) (now (wire .exit)) r ⌝ }
 {
     let n = negotiation::put_reply(whose, reply, option, wire);
     let step = side_moved(s, side, q, paper, &mut wire[n..]);

@@ -130,7 +130,7 @@ unfolding keyTyped answer
 typed-kept n m {ms} s k l e f i w a h = go (rcteOn s) refl h
   where
     typed : Bool → Echo → Key → Answer
-    typed on e k = done (pick on (echoing [] (pressed e k) (withEcho s e)) (keySent (withEcho s e) k))
+    typed on e k = done (pick on (echoing (pressed e k) (withEcho s e)) (keySent (withEcho s e) k))
 
     go : (on : Bool) → rcteOn s ≡ on → Quiets n (ms ++ m ∷ []) (typed on e k .did .taken) (typed on f l .did .taken)
         → Kept n (ms ++ m ∷ []) (e .gathered) (f .gathered) (typed on e k) (typed on f l)

@@ -43,7 +43,7 @@ key-typed : (s : Printer) (k : Key) → Held s → Onward s (k ∷ []) (done (ke
 unfolding keyTyped
 key-typed s k w = go (rcteOn s) refl
   where
-    go : (on : Bool) → rcteOn s ≡ on → Onward s (k ∷ []) (done (pick on (echoing [] (pressed (s .echo) k) s) (keySent s k)))
+    go : (on : Bool) → rcteOn s ≡ on → Onward s (k ∷ []) (done (pick on (echoing (pressed (s .echo) k) s) (keySent s k)))
     go true p = let o = pressed-order p (s .echo) k w in record { waits = o .waits; order = o .order }
     go false p = record { waits = w; order = rw (w .off p) refl }
 

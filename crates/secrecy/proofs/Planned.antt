@@ -1,7 +1,7 @@
 -- Every call but a key call is planned: only its acts touch the state of RCTE.
 use mathlib.Core.Path.{_≡_, refl, sym, ap, _∙_}
 use mathlib.Core.Bool.{Bool, true, false, _&&_, not}
-use mathlib.Core.List.{List, [], _∷_}
+use mathlib.Core.List.{List, [], _∷_, _++_}
 use Prim.Native.Nat.{ℕ}
 use lib.ListN.{drop}
 use lib.Dec.{eqb}
@@ -34,8 +34,8 @@ use Rattle.wire.specs.Frames.{frame}
 use Rattle.macros.specs.Texts.{Entry, plain, text, noMacros, entryOf, judged, afterDefine}
 use Rattle.disposition.specs.Returns.{unspoken, withDs, withDr}
 use Rattle.echo.specs.Control.{Echo as EchoState, holding}
-use Rattle.printer.specs.State.{Printer, withSides, withReader, withTable, withEcho, withValues, rcteOn, echoOn, returnsOn, macrosOn, Did, nothing, notes, printing, followed, Answer, done, refused}
-use Rattle.printer.specs.Network.{dataRead, rcteMoved, sideMoved, sideHeard, negotiationRead, rcteRead, verdictBytes, macroRead, valueRead, optionRead, bodyRead, itemRead, byteRead, bytesRead, entryRead, networkRead}
+use Rattle.printer.specs.State.{Printer, withSides, withReader, withTable, withEcho, withValues, rcteOn, echoOn, returnsOn, macrosOn, Did, nothing, notes, printing, behind, followed, Answer, done, refused}
+use Rattle.printer.specs.Network.{dataRead, rcteMoved, sideMoved, replied, sideHeard, negotiationRead, rcteRead, verdictBytes, macroRead, valueRead, optionRead, bodyRead, itemRead, byteRead, bytesRead, entryRead, networkRead}
 use Rattle.printer.specs.Calls.{networkCall, askCall, suggestCall}
 use Rattle.printer.specs.Session.{called}
 use Rattle.printer.specs.Session.Call.{network, ask, suggest}
@@ -61,24 +61,24 @@ data-read s b = go (rcteOn s) refl
     go false p = plain-step s s refl Clear (b ∷ []) []
 
 rcte-moved : (s t : Printer) (reply : List ℕ) (on still : Bool) → rcteOn s ≡ on → rcteOn t ≡ still
-    → Planned (rcteOn s) (λ e. rcteMoved on still reply (withEcho t e))
+    → Planned (rcteOn s) (λ e. behind reply (rcteMoved on still (withEcho t e)))
 unfolding acted
-rcte-moved s t reply true true p q = plain-step s t (p ∙ sym q) Clear [] reply
+rcte-moved s t reply true true p q = plain-step s t (p ∙ sym q) Clear [] (reply ++ [])
 rcte-moved s t reply true false p q = record { note = Clear; others = t; acts = ends p q reply (echoOn t); does = λ e. refl }
-rcte-moved s t reply false true p q = record { note = Clear; others = t; acts = starts p q reply; does = λ e. refl }
-rcte-moved s t reply false false p q = plain-step s t (p ∙ sym q) Clear [] reply
+rcte-moved s t reply false true p q = record { note = Clear; others = t; acts = starts p q (reply ++ []); does = λ e. refl }
+rcte-moved s t reply false false p q = plain-step s t (p ∙ sym q) Clear [] (reply ++ [])
 
-side-moved : (s : Printer) (side : Side) (q : Standing) (reply : List ℕ) → Planned (rcteOn s) (λ e. sideMoved (withEcho s e) side q reply)
+side-moved : (s : Printer) (side : Side) (q : Standing) (reply : List ℕ) → Planned (rcteOn s) (λ e. replied (withEcho s e) side q reply)
 unfolding sideMoved
 side-moved s Rcte q reply = rcte-moved s (withSides s (moved (s .sides) Rcte q)) reply (rcteOn s) (isYes q) refl refl
 side-moved s Macro q reply =
-    plain-step s (withTable (withSides s (moved (s .sides) Macro q)) (pick (stillOn q) (s .table) noMacros)) refl Clear [] reply
+    plain-step s (withTable (withSides s (moved (s .sides) Macro q)) (pick (stillOn q) (s .table) noMacros)) refl Clear [] (reply ++ [])
 side-moved s Returns q reply =
-    plain-step s (withValues (withSides s (moved (s .sides) Returns q)) (pick (isYes q) (s .values) unspoken)) refl Clear [] reply
-side-moved s Echo q reply = plain-step s (withSides s (moved (s .sides) Echo q)) refl Clear [] reply
-side-moved s BulletinSga q reply = plain-step s (withSides s (moved (s .sides) BulletinSga q)) refl Clear [] reply
-side-moved s PrinterSga q reply = plain-step s (withSides s (moved (s .sides) PrinterSga q)) refl Clear [] reply
-side-moved s Uncarried q reply = plain-step s s refl Clear [] reply
+    plain-step s (withValues (withSides s (moved (s .sides) Returns q)) (pick (isYes q) (s .values) unspoken)) refl Clear [] (reply ++ [])
+side-moved s Echo q reply = plain-step s (withSides s (moved (s .sides) Echo q)) refl Clear [] (reply ++ [])
+side-moved s BulletinSga q reply = plain-step s (withSides s (moved (s .sides) BulletinSga q)) refl Clear [] (reply ++ [])
+side-moved s PrinterSga q reply = plain-step s (withSides s (moved (s .sides) PrinterSga q)) refl Clear [] (reply ++ [])
+side-moved s Uncarried q reply = plain-step s s refl Clear [] (reply ++ [])
 
 negotiation-read : (s : Printer) (v : Verb) (option : ℕ) → Planned (rcteOn s) (λ e. negotiationRead (withEcho s e) v option)
 unfolding negotiationRead sideHeard heardBy
@@ -197,7 +197,7 @@ ask-call s option way paper wire =
   where
     go : (side : Side) (a : Asked)
         → Planned (rcteOn s) (λ e. askedTo (s .sides) (askedWhose way) option side (askedEnable way)
-        (λ q reply. sideMoved (withEcho s e) side q reply) (nothing (withEcho s e)) a)
+        (λ q reply. replied (withEcho s e) side q reply) (nothing (withEcho s e)) a)
     go side Already = plain-step s s refl Clear [] []
     go side (Moves q r) = side-moved s side q (replyBytes (askedWhose way) r option)
 

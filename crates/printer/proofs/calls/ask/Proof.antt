@@ -4,7 +4,7 @@ use Rattle.codes.specs.Answers.{guarded}
 use Rattle.codes.specs.declared.Code.the-variants.{NotCarried}
 use Rattle.negotiation.specs.Carried.{replyBytes, askedBy}
 use Rattle.printer.specs.Kept.{viewPrinter}
-use Rattle.printer.specs.Network.{sideMoved}
+use Rattle.printer.specs.Network.{replied}
 use Rattle.printer.specs.Calls.{askCall}
 use Rattle.negotiation.proofs.Replies.{reply-long}
 use Rattle.printer.proofs.Limits.{move-fits}
@@ -157,7 +157,7 @@ returns-5 c =
     let room = carried .before .before .before in
     let a = room .before .before .before .before .args in
     rw (sym (room .before .no-room .ensures) ∙ room .if1 .left, ← carried .before .before .asked-side-printer .ensures, ap not (sym (carried .before .is-carried .ensures)) ∙ carried .if2 .left, ← clash .before .before .before .asked-enable .ensures, sym (clash .before .clashes .ensures) ∙ clash .if3 .left, ← told .before .before .before .standing-of .ensures, sym (told .before .before .ask .ensures) ∙ told .asked .given .1, ← call .before .before .before .asked-whose .ensures, c .done .ensures)
-    (met-done {d = sideMoved (viewPrinter (a .s)) side (moves .0) (replyBytes whose (moves .1 .0) (a .option))} (call .replied .ensures))
+    (met-done {d = replied (viewPrinter (a .s)) side (moves .0) (replyBytes whose (moves .1 .0) (a .option))} (call .replied .ensures))
 
 pub ask-spec : {M : Type 1} → statement M
 ask-spec =
