@@ -183,18 +183,18 @@ fn ordered(e: Echo, c: RcteCommand) -> Echo
     }
 }
 
-// The keys from a place up to count, moved to the front; the cells behind them are 0.
-fn shifted(keys: [u16; 256], from: usize, count: usize) -> [u16; 256]
-    requires { ⌜ (from ≤ count) × (count ≤ 256) ⌝ }
-    ensures { λ r. ⌜ r ≡ drop from (take count keys) ++ replicate (256 - (count - from)) 0 ⌝ }
+// The keys that still wait behind the first ones, in an empty queue.
+fn keys_from(cells: [u16; 256], taken: usize, count: usize) -> [u16; 256]
+    requires { ⌜ taken + count ≤ 256 ⌝ }
+    ensures { λ r. ⌜ r ≡ take count (drop taken cells) ++ replicate (256 - count) 0 ⌝ }
 {
-    let mut out = no_keys();
-    let mut i = from;
-    while i < count {
-        out[i - from] = keys[i];
-        i += 1;
+    let mut rest = no_keys();
+    let mut n: usize = 0;
+    while n < count {
+        rest[n] = cells[taken + n];
+        n += 1;
     }
-    out
+    rest
 }
 
 // The state once so many of the waiting keys were taken up.
@@ -202,9 +202,9 @@ fn left(e: Echo, g: Gathered, at: usize, held: bool) -> Echo
     requires { ⌜ at ≤ min (e .count) 256 ⌝ }
     ensures { λ r. ⌜ Left (leftAt (viewEcho e) (bytesIn g) at held) g e r ⌝ }
 {
-    let count = capped(e.count, 256);
-    let keys = e.waiting;
-    let waiting = shifted(keys, at, count);
+    let count = capped(e.count, 256) - at;
+    let cells = e.waiting;
+    let waiting = keys_from(cells, at, count);
     let gathered = g.cells;
     let action = e.action;
     Echo {
@@ -213,7 +213,7 @@ fn left(e: Echo, g: Gathered, at: usize, held: bool) -> Echo
         breaks: e.breaks,
         sends: e.sends,
         waiting,
-        count: count - at,
+        count,
         gathered,
         filled: g.filled,
     }

@@ -156,7 +156,7 @@ loop-again c =
     let a = n .before .before in
     turn (a .loop .inv) (paper-fits a) (wire-fits a) (n .unpack .result) (inside n) (next n) (u .take-up .last .1 .1 .1 .0) (u .take-up .last .1 .1 .1 .1 .0) (u .take-up .result) (u .take-up .ensures) (c .if2 .left)
 
--- how the loop ended, where its two ways out meet
+-- both exits of the loop, as one fact
 ended : (c : tie.Joined1 Inv-loop μ-loop) → let start = entry (c .before) in
     Gone (ordersIn (start .args .e)) (waitingIn (start .args .e)) (gatheredCells (start .args .e)) (start .args .paper .now) (start .args .wire .now)
     (c .if1 .g) (c .if1 .paper) (c .if1 .wire) (c .if1 .p) (c .if1 .w) (takenBefore (c .if1 .stop) (waitingIn (start .args .e))) (holdsAfter (c .if1 .stop))
