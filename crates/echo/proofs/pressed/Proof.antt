@@ -5,7 +5,7 @@ use Rattle.echo.proofs.pressed.Statement.{statement}
 use Rattle.echo.proofs.pressed.Tie as tie
 use Rattle.echo.proofs.pressed.Reads as reads
 use Rattle.echo.proofs.pressed.Lts as lts
-use Rattle.echo.proofs.is_full.Reads as is-full-reads
+use Rattle.echo.proofs.waiting.is_full.Reads as is-full-reads
 use Rattle.echo.proofs.pressed_in_room.Reads as pressed-in-room-reads
 
 -- src/lib.rt:438:8
