@@ -1,8 +1,8 @@
 use borrow.Author.Tests.{ne-eqb}
 use borrow.Author.Needs.{needs}
 use Rattle.negotiation.specs.Carried.{printerSide}
-use Rattle.negotiation.proofs.printer_side.Statement.{statement}
-use Rattle.negotiation.proofs.printer_side.Tie as tie
+use Rattle.negotiation.proofs.carried.printer_side.Statement.{statement}
+use Rattle.negotiation.proofs.carried.printer_side.Tie as tie
 
 enum-told : tie.Need-enum-told
 enum-told c = search needs

@@ -1,6 +1,6 @@
 use borrow.Author.Tests.{lt-ltb, le-ltb}
-use Rattle.negotiation.proofs.asked_whose.Statement.{statement}
-use Rattle.negotiation.proofs.asked_whose.Tie as tie
+use Rattle.negotiation.proofs.asks.asked_whose.Statement.{statement}
+use Rattle.negotiation.proofs.asks.asked_whose.Tie as tie
 
 returns : tie.Need-returns
 returns c = rw (lt-ltb _ _ (c .if1 .taken))

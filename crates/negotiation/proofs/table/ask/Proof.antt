@@ -1,7 +1,7 @@
 use borrow.Author.Needs.{needs}
 use Rattle.negotiation.specs.Table.{asked}
-use Rattle.negotiation.proofs.ask.Statement.{statement}
-use Rattle.negotiation.proofs.ask.Tie as tie
+use Rattle.negotiation.proofs.table.ask.Statement.{statement}
+use Rattle.negotiation.proofs.table.ask.Tie as tie
 
 ask-enable-requires : tie.Need-ask-enable-requires
 ask-enable-requires c κs = search needs

@@ -1,6 +1,6 @@
 use borrow.Author.Needs.{needs}
-use Rattle.negotiation.proofs.put_reply.Statement.{statement}
-use Rattle.negotiation.proofs.put_reply.Tie as tie
+use Rattle.negotiation.proofs.asks.put_reply.Statement.{statement}
+use Rattle.negotiation.proofs.asks.put_reply.Tie as tie
 
 enum-told : tie.Need-enum-told
 enum-told c = search needs

@@ -1,7 +1,7 @@
 use borrow.Author.Needs.{needs}
 use Rattle.negotiation.specs.Table.{heard}
-use Rattle.negotiation.proofs.hear.Statement.{statement}
-use Rattle.negotiation.proofs.hear.Tie as tie
+use Rattle.negotiation.proofs.table.hear.Statement.{statement}
+use Rattle.negotiation.proofs.table.hear.Tie as tie
 
 heard-enable-requires : tie.Need-heard-enable-requires
 heard-enable-requires c κs = search needs

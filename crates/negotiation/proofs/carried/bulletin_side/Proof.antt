@@ -1,6 +1,6 @@
 use borrow.Author.Needs.{needs}
-use Rattle.negotiation.proofs.bulletin_side.Statement.{statement}
-use Rattle.negotiation.proofs.bulletin_side.Tie as tie
+use Rattle.negotiation.proofs.carried.bulletin_side.Statement.{statement}
+use Rattle.negotiation.proofs.carried.bulletin_side.Tie as tie
 
 other-side-requires : tie.Need-other-side-requires
 other-side-requires c κs = search needs

@@ -1,7 +1,7 @@
 -- Side by side.
 use borrow.Author.Needs.{needs}
-use Rattle.negotiation.proofs.moved.Statement.{statement}
-use Rattle.negotiation.proofs.moved.Tie as tie
+use Rattle.negotiation.proofs.carried.moved.Statement.{statement}
+use Rattle.negotiation.proofs.carried.moved.Tie as tie
 
 enum-told : tie.Need-enum-told
 enum-told c = search needs

@@ -1,7 +1,7 @@
 use borrow.Author.Needs.{needs}
 use Rattle.negotiation.specs.Carried.{clashes}
-use Rattle.negotiation.proofs.clashes.Statement.{statement}
-use Rattle.negotiation.proofs.clashes.Tie as tie
+use Rattle.negotiation.proofs.carried.clashes.Statement.{statement}
+use Rattle.negotiation.proofs.carried.clashes.Tie as tie
 
 standing-of-requires : tie.Need-standing-of-requires
 standing-of-requires c κs = search needs
