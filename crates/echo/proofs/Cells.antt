@@ -10,7 +10,7 @@ use lib.Seq.{take-at, drop-cons, getD-take}
 use lib.Dec.{leb}
 use borrow.Author.Tests.{le-leb, lt-leb, leb-true, leb-false}
 use Rattle.lists.specs.Buffers.{Clean}
-use Rattle.lists.proofs.Moving.{map-drop}
+use Rattle.lists.proofs.Copying.{map-drop, cut-from}
 use Rattle.lists.proofs.Appended.{appended, clean-appended}
 use Rattle.lists.proofs.Zeros.{clean-append}
 use Rattle.lists.proofs.Lengths.{every-set, every-append, every-replicate, every-take, every-drop}
@@ -30,6 +30,10 @@ next-key cells n i h l =
 pub keys-of : (e : Echo) (n : ℕ) → n ≡ min (e .count) 256 → map unpacked (take n (e .waiting)) ≡ waitingIn e
 keys-of e n h = rw h
 
+-- m keys from a place on, in an empty queue
+abbrev pub leftCells : List ℕ → ℕ → ℕ → List ℕ
+leftCells cells at m = take m (drop at cells) ++ replicate (256 - m) 0
+
 module _ (cells : List ℕ) (n : ℕ) (l : length cells ≡ 256) where
   pub count-of : length (keysIn cells n) ≡ min n 256
   count-of = simp (length-map, length-take) (omega arith)
@@ -42,18 +46,18 @@ module _ (cells : List ℕ) (n : ℕ) (l : length cells ≡ 256) where
       go false e = sym (lt-leb 256 (length (keysIn cells n)) (omega (arith, count-of, leb-false 256 n e)))
 
   -- the keys left behind the first ones
-  pub left-keys : (at : ℕ) → at ≤ min n 256
-      → keysIn (drop at (take (min n 256) cells) ++ replicate (256 - (min n 256 - at)) 0) (min n 256 - at) ≡ drop at (keysIn cells n)
-  left-keys at h =
-      let e : min (min n 256 - at) 256 ≡ min n 256 - at = omega arith in
-      let long : length (drop at (take (min n 256) cells)) ≡ min n 256 - at = simp (length-drop, length-take) (omega arith) in
-      rw (e, take-at (drop at (take (min n 256) cells)) (replicate (256 - (min n 256 - at)) 0) (min n 256 - at) long)
-      (map-drop unpacked at (take (min n 256) cells))
+  module _ (at m : ℕ) (left : at + m ≡ min n 256) where
+    left-long : length (take m (drop at cells)) ≡ m
+    left-long = simp (length-take, length-drop) (omega arith)
 
-  pub left-clean : (at : ℕ) → at ≤ min n 256
-      → Clean (drop at (take (min n 256) cells) ++ replicate (256 - (min n 256 - at)) 0) (min n 256 - at)
-  left-clean at h =
-      clean-append (drop at (take (min n 256) cells)) (min n 256 - at) (256 - (min n 256 - at)) (simp (length-drop, length-take) (omega arith))
+    pub left-keys : keysIn (leftCells cells at m) m ≡ drop at (keysIn cells n)
+    left-keys =
+        let e : min m 256 ≡ m = omega arith in
+        rw (e, take-at (take m (drop at cells)) (replicate (256 - m) 0) m left-long, cut-from cells at m (omega arith), left)
+        (map-drop unpacked at (take (min n 256) cells))
+
+    pub left-clean : Clean (leftCells cells at m) m
+    left-clean = clean-append (take m (drop at cells)) m (256 - m) left-long
 
   -- a key put behind those that wait
   pub queued-keys : (p : ℕ) (k : Key) → min n 256 < 256 → unpacked p ≡ k → keysIn (set cells (min n 256) p) (min n 256 + 1) ≡ keysIn cells n ++ k ∷ []
@@ -78,11 +82,11 @@ zero-number = refl
 pub no-numbers : (n : ℕ) → Numbered (replicate n 0)
 no-numbers n = every-replicate IsNumber 0 n 0 zero-number zero-number
 
-pub left-numbers : (cells : List ℕ) (n at : ℕ) → Numbered cells → Numbered (drop at (take (min n 256) cells) ++ replicate (256 - (min n 256 - at)) 0)
-left-numbers cells n at h =
-    every-append IsNumber 0 (drop at (take (min n 256) cells)) (replicate (256 - (min n 256 - at)) 0)
-    (every-drop IsNumber 0 at (take (min n 256) cells) (every-take IsNumber 0 zero-number (min n 256) cells h))
-    (no-numbers (256 - (min n 256 - at)))
+pub left-numbers : (cells : List ℕ) (at m : ℕ) → Numbered cells → Numbered (leftCells cells at m)
+left-numbers cells at m h =
+    every-append IsNumber 0 (take m (drop at cells)) (replicate (256 - m) 0)
+    (every-take IsNumber 0 zero-number m (drop at cells) (every-drop IsNumber 0 at cells h))
+    (no-numbers (256 - m))
 
 pub queued-numbers : (cells : List ℕ) (n p : ℕ) → packed (unpacked p) ≡ p → Numbered cells → Numbered (set cells (min n 256) p)
 queued-numbers cells n p e h = every-set IsNumber 0 cells (min n 256) p e h

@@ -9,6 +9,6 @@ pub mod Sums
 pub mod Zeros
 pub mod Filling
 pub mod Grown
-pub mod Moving
+pub mod Copying
 pub mod Behind
 pub mod ReadOff

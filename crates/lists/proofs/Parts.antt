@@ -1,4 +1,4 @@
--- Bytes written behind others: what an encoder that was lent the rest of a buffer leaves in the whole.
+-- Bytes written behind others, seen in the whole buffer.
 use mathlib.Core.Path.{_≡_, refl, sym, ap, _∙_}
 use mathlib.Core.List.{List, [], _∷_, _++_, append-assoc, append-nil}
 use Prim.Native.Nat.{ℕ, suc, _+_, _-_, _≤_, _<_}

@@ -1,4 +1,4 @@
--- The loop that reads a macro's text: its invariant, and that a turn keeps it.
+-- A macro's text read byte by byte: the loop's invariant, and that one more byte keeps it.
 use mathlib.Core.Path.{_≡_, refl, sym, ap, ap₂, subst, _∙_}
 use mathlib.Core.List.{List, [], _∷_, _++_, append-assoc}
 use Prim.Native.Nat.{ℕ, _+_, _-_, _≤_, _<_}

@@ -14,13 +14,17 @@ pub fn put_coded(b: u8, out: &mut [u8]) -> usize
     requires { ⌜ RoomFor (coded b) (now out) ⌝ }
     ensures { λ r. ⌜ Wrote (coded b) (now (out .entry)) (now (out .exit)) r ⌝ }
 {
-    if b == 255 {
-        out[0] = 255;
-        out[1] = 255;
-        return 2;
+    match b {
+        255 => {
+            out[0] = 255;
+            out[1] = 255;
+            2
+        }
+        _ => {
+            out[0] = b;
+            1
+        }
     }
-    out[0] = b;
-    1
 }
 
 pub fn put_negotiation(v: Verb, option: u8, out: &mut [u8]) -> usize

@@ -1,7 +1,7 @@
 use borrow.Author.Tests.{ne-eqb}
 use borrow.Author.Needs.{needs}
 use Rattle.disposition.specs.Returns.{padded}
-use Rattle.lists.proofs.Starts.{wrote-one}
+use Rattle.lists.proofs.Starts.{wrote-start}
 use Rattle.disposition.proofs.put_line.Statement.{statement}
 use Rattle.disposition.proofs.put_line.Tie as tie
 
@@ -33,8 +33,7 @@ same-length c = search needs
 returns : tie.Need-returns
 returns c =
     let value = c .before .before in
-    let start = value .before .before .before in
-    rw (value .h .given .1, c .if1 .taken) (wrote-one (start .args .out .now) 10 (slice-write-out c))
+    rw (value .h .given .1, c .if1 .taken) (wrote-start _ _ (slice-write-out c))
 
 same-length-2 : tie.Need-same-length-2
 same-length-2 c = search needs

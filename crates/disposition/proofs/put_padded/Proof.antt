@@ -5,7 +5,7 @@ use native.Mathlib.Omega.{arith}
 use borrow.Author.Needs.{needs}
 use lib.ListN.{length, set, replicate, length-set, length-replicate}
 use Rattle.lists.specs.Buffers.{Wrote}
-use Rattle.lists.proofs.Starts.{wrote-two}
+use Rattle.lists.proofs.Starts.{wrote-start}
 use Rattle.lists.proofs.Parts.{same-long, part-room, wrote-then}
 use Rattle.disposition.proofs.Padding.{pads, none-below, none-above, at-least}
 use Rattle.disposition.proofs.put_padded.Statement.{statement}
@@ -15,7 +15,7 @@ two : (c : tie.Start) → 2 ≤ length (c .args .out .now)
 two c = omega (arith, at-least (c .args .n) (13 ∷ c .args .second ∷ []), c .pre)
 
 first : (c : tie.Start) → Wrote (13 ∷ c .args .second ∷ []) (c .args .out .now) (set (set (c .args .out .now) 0 13) 1 (c .args .second)) 2
-first c = wrote-two (c .args .out .now) 13 (c .args .second) (two c)
+first c = wrote-start (13 ∷ c .args .second ∷ []) (c .args .out .now) (two c)
 
 slice-write-out : tie.Need-slice-write-out
 slice-write-out c = omega (arith, two (c .before))

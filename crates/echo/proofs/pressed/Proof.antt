@@ -5,32 +5,26 @@ use Rattle.echo.proofs.pressed.Statement.{statement}
 use Rattle.echo.proofs.pressed.Tie as tie
 use Rattle.echo.proofs.pressed.Reads as reads
 use Rattle.echo.proofs.pressed.Lts as lts
-use Rattle.echo.proofs.is_full.Reads as is-full-reads
+use Rattle.echo.proofs.waiting.is_full.Reads as is-full-reads
 use Rattle.echo.proofs.pressed_in_room.Reads as pressed-in-room-reads
 
--- src/lib.rt:438:8
 is-full-requires : tie.Need-is-full-requires
 is-full-requires c κs = search needs
 
--- src/lib.rt:439:9
 returns : tie.Need-returns
 returns c = rw (sym (c .before .is-full .ensures) ∙ c .if1 .taken) (record { paper = wrote-none _; wire = wrote-none _; echo = refl; clean = λ k. k })
 
--- src/lib.rt:445:5
 pressed-in-room-requires : tie.Need-pressed-in-room-requires
 pressed-in-room-requires c κs =
     let no-more = sym (c .before .before .before .is-full .ensures) ∙ c .before .before .if1 .left in
     (no-more, rw no-more at (c .before .before .before .before .before .before .pre))
 
--- src/lib.rt:433:1
 same-length : tie.Need-same-length
 same-length c = search needs
 
--- src/lib.rt:433:1
 same-length-2 : tie.Need-same-length-2
 same-length-2 c = search needs
 
--- src/lib.rt:433:1
 returns-2 : tie.Need-returns-2
 returns-2 c = rw (sym (c .before .before .before .before .before .before .before .before .is-full .ensures) ∙ c .before .before .before .before .before .before .before .if1 .left) (c .before .before .before .before .pressed-in-room .ensures)
 

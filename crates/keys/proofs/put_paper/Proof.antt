@@ -1,5 +1,5 @@
 use Prim.Native.Nat.{_≤_}
-use Rattle.lists.proofs.Starts.{wrote-none, wrote-one, wrote-two}
+use Rattle.lists.proofs.Starts.{wrote-none, wrote-start}
 use Rattle.keys.specs.Keys.{keyPaper, prints}
 use lib.ListN.{length, length-set}
 use native.Mathlib.Omega.{arith}
@@ -40,7 +40,7 @@ same-length c = search needs
 -- src/lib.rt:111:17
 returns : tie.Need-returns
 unfolding keyPaper
-returns c = rw (c .before .before .before .k .given .1, sym (c .before .prints .ensures) ∙ c .if1 .taken) (wrote-one _ _ (room-then c))
+returns c = rw (c .before .before .before .k .given .1, sym (c .before .prints .ensures) ∙ c .if1 .taken) (wrote-start _ _ (room-then c))
 
 -- src/lib.rt:116:13
 enum-told : tie.Need-enum-told
@@ -70,7 +70,7 @@ same-length-2 c = search needs
 -- src/lib.rt:103:1
 returns-3 : tie.Need-returns-3
 unfolding keyPaper
-returns-3 c = rw (c .enum-told .given .1) (wrote-two _ 13 10 (room-line c))
+returns-3 c = rw (c .enum-told .given .1) (wrote-start _ _ (room-line c))
 
 -- src/lib.rt:103:1
 returns-4 : tie.Need-returns-4

@@ -1,4 +1,4 @@
-use Rattle.lists.proofs.Starts.{wrote-two}
+use Rattle.lists.proofs.Starts.{wrote-start}
 use Rattle.wire.specs.Frames.{coded}
 use Rattle.keys.specs.declared.Key.the-variants.{Char}
 use Rattle.keys.specs.Keys.{keyWire}
@@ -23,32 +23,25 @@ char-wire : (b : ℕ) → (b ≡ 13 → ⊥) → keyWire (Char b) ≡ coded b
 unfolding keyWire coded
 char-wire b h = rw (ne-eqb _ _ h)
 
--- src/lib.rt:119:9
 slice-write-out : tie.Need-slice-write-out
 slice-write-out c = omega (arith, room-cr c)
 
--- src/lib.rt:120:9
 slice-write-out-2 : tie.Need-slice-write-out-2
 slice-write-out-2 c = simp length-set (omega (arith, room-cr c))
 
--- src/lib.rt:121:9
 same-length : tie.Need-same-length
 same-length c = search needs
 
--- src/lib.rt:121:9
 returns : tie.Need-returns
 unfolding keyWire
-returns c = rw (c .if1 .taken) (wrote-two _ 13 0 (room-cr c))
+returns c = rw (c .if1 .taken) (wrote-start _ _ (room-cr c))
 
--- src/lib.rt:123:5
 put-coded-requires : tie.Need-put-coded-requires
 put-coded-requires c κs = rw (char-wire _ (c .before .if1 .left)) at (c .before .before .before .pre)
 
--- src/lib.rt:114:1
 same-length-2 : tie.Need-same-length-2
 same-length-2 c = search needs
 
--- src/lib.rt:114:1
 returns-2 : tie.Need-returns-2
 returns-2 c = rw (char-wire _ (c .before .before .before .before .if1 .left)) (c .before .before .put-coded .ensures)
 

@@ -43,54 +43,42 @@ module _ (body before : List ℕ) (room : RoomFor (doubled body) before) where
   within : (out : List ℕ) (i n : ℕ) → Wrote (doubled (take i body)) before out n → n ≤ length out
   within out i n w = omega (arith, w .count, same-long w (room-begin i), room-begin i)
 
--- src/lib.rt:63:5
 loop-holds : tie.Need-loop-holds Inv-loop μ-loop
 unfolding joined
 loop-holds c = (omega arith, wrote-none _)
 
--- src/lib.rt:64:17
 shared-slice-read-b : tie.Need-shared-slice-read-b Inv-loop μ-loop
 shared-slice-read-b c = search needs
 
--- src/lib.rt:65:30
 sub-put-coded : tie.Need-sub-put-coded Inv-loop μ-loop
 sub-put-coded c = omega (arith, within (c .before .before .before .before .before .args .body .now) (c .before .before .before .before .before .args .out .now) (c .before .before .before .before .before .pre) (c .before .before .loop .out) (c .before .before .loop .i) (c .before .before .loop .n) (c .before .before .loop .inv .1))
 
--- src/lib.rt:65:30
 part-put-coded-start : tie.Need-part-put-coded-start Inv-loop μ-loop
 part-put-coded-start c = omega (arith, within (c .before .before .before .before .before .args .body .now) (c .before .before .before .before .before .args .out .now) (c .before .before .before .before .before .pre) (c .before .before .loop .out) (c .before .before .loop .i) (c .before .before .loop .n) (c .before .before .loop .inv .1))
 
--- src/lib.rt:65:30
 part-put-coded-end : tie.Need-part-put-coded-end Inv-loop μ-loop
 part-put-coded-end c = search needs
 
--- src/lib.rt:65:13
 put-coded-requires : tie.Need-put-coded-requires Inv-loop μ-loop
 put-coded-requires c κs = room-next (c .before .before .before .before .before .before .args .body .now) (c .before .before .before .before .before .before .args .out .now) (c .before .before .before .before .before .before .pre) (c .before .before .before .loop .out) (c .before .before .before .loop .i) (c .before .before .before .loop .n) (c .before .before .loop-test .taken) (c .before .before .before .loop .inv .1)
 
--- src/lib.rt:66:9
 add-n : tie.Need-add-n Inv-loop μ-loop
 add-n c =
     let t = turn (c .before .before .before .before .before .before .before .before .before .args .body .now) (c .before .before .before .before .before .before .before .before .before .args .out .now) (c .before .before .before .before .before .before .before .before .before .pre) (c .before .before .before .before .before .before .loop .out) (c .before .before .before .before .before .before .loop .i) (c .before .before .before .before .before .before .loop .n) (c .before .before .before .before .before .loop-test .taken) (c .before .before .before .before .before .before .loop .inv .1) (c .before .before .put-coded .last .1 .0) (c .before .before .put-coded .result) (c .before .before .put-coded .ensures) in
     omega (arith, counted t (room-begin (c .before .before .before .before .before .before .before .before .before .args .body .now) (c .before .before .before .before .before .before .before .before .before .args .out .now) (c .before .before .before .before .before .before .before .before .before .pre) (c .before .before .before .before .before .before .loop .i + 1)), c .before .before .before .before .before .before .before .before .before .good .1 .0 .0)
 
--- src/lib.rt:67:9
 add-i : tie.Need-add-i Inv-loop μ-loop
 add-i c = search needs
 
--- src/lib.rt:63:5
 loop-less : tie.Need-loop-less Inv-loop μ-loop
 loop-less c = search needs
 
--- src/lib.rt:63:5
 loop-again : tie.Need-loop-again Inv-loop μ-loop
 loop-again c = (omega arith, turn (c .before .before .before .before .before .before .before .before .before .args .body .now) (c .before .before .before .before .before .before .before .before .before .args .out .now) (c .before .before .before .before .before .before .before .before .before .pre) (c .before .before .before .before .before .before .loop .out) (c .before .before .before .before .before .before .loop .i) (c .before .before .before .before .before .before .loop .n) (c .before .before .before .before .before .loop-test .taken) (c .before .before .before .before .before .before .loop .inv .1) (c .before .before .put-coded .last .1 .0) (c .before .before .put-coded .result) (c .before .before .put-coded .ensures))
 
--- src/lib.rt:57:1
 same-length : tie.Need-same-length Inv-loop μ-loop
 same-length c = same-long (c .before .loop .inv .1) (room-begin (c .before .before .before .before .args .body .now) (c .before .before .before .before .args .out .now) (c .before .before .before .before .pre) (c .before .loop .i))
 
--- src/lib.rt:57:1
 returns : tie.Need-returns Inv-loop μ-loop
 returns c =
     let e : c .before .loop .i ≡ length (c .before .before .before .before .args .body .now) = omega arith in

@@ -1,6 +1,6 @@
 use Rattle.wire.specs.Frames.{doubled, frame}
 use Rattle.lists.proofs.Parts.{wrote-then, wrote-more, same-long, part-room, counted}
-use Rattle.lists.proofs.Starts.{wrote-two}
+use Rattle.lists.proofs.Starts.{wrote-start}
 use Rattle.lists.specs.Buffers.{Wrote, RoomFor}
 use borrow.Rule.Slice.PartMut.{putMid}
 use lib.ListN.{length, take, drop, set, length-append, length-set}
@@ -27,7 +27,7 @@ module _ (body before : List ℕ) (room : RoomFor (frame body) before) where
 
   opened-wrote : Wrote (255 ∷ 250 ∷ []) before opened 2
   unfolding opened
-  opened-wrote = wrote-two before 255 250 (omega (arith, room-all))
+  opened-wrote = wrote-start (255 ∷ 250 ∷ []) before (omega (arith, room-all))
 
   room-two : RoomFor (255 ∷ 250 ∷ []) before
   room-two = omega (arith, room-all)
@@ -70,62 +70,49 @@ module _ (body before : List ℕ) (room : RoomFor (frame body) before) where
         let d : k + 2 + 1 + 1 ≡ k + 4 = omega arith in
         rw (append-assoc (doubled body) (255 ∷ []) (240 ∷ [])) at (rw d at four)
 
--- src/lib.rt:72:5
 slice-write-out : tie.Need-slice-write-out
 slice-write-out c = omega (arith, room-all (c .before .before .args .body .now) (c .before .before .args .out .now) (c .before .before .pre))
 
--- src/lib.rt:73:5
 slice-write-out-2 : tie.Need-slice-write-out-2
 slice-write-out-2 c = simp length-set (omega (arith, room-all (c .before .before .args .body .now) (c .before .before .args .out .now) (c .before .before .pre)))
 
--- src/lib.rt:74:31
 sub-put-doubled : tie.Need-sub-put-doubled
 sub-put-doubled c = simp length-set (omega (arith, room-all (c .before .before .args .body .now) (c .before .before .args .out .now) (c .before .before .pre)))
 
--- src/lib.rt:74:31
 part-put-doubled-start : tie.Need-part-put-doubled-start
 part-put-doubled-start c = simp length-set (omega (arith, room-all (c .before .before .args .body .now) (c .before .before .args .out .now) (c .before .before .pre)))
 
--- src/lib.rt:74:31
 part-put-doubled-end : tie.Need-part-put-doubled-end
 part-put-doubled-end c = search needs
 
--- src/lib.rt:74:9
 put-doubled-requires : tie.Need-put-doubled-requires
 unfolding opened
 put-doubled-requires c κs = room-body (c .before .before .before .args .body .now) (c .before .before .before .args .out .now) (c .before .before .before .pre)
 
--- src/lib.rt:75:14
 add-at : tie.Need-add-at
 unfolding opened
 add-at c = omega (arith, spare (c .before .before .before .before .before .before .args .body .now) (c .before .before .before .before .before .before .args .out .now) (c .before .before .before .before .before .before .pre) (c .before .before .put-doubled .last .1 .0) (c .before .before .put-doubled .result) (c .before .before .put-doubled .ensures), c .before .before .before .before .before .before .good .1 .0 .0)
 
--- src/lib.rt:76:5
 slice-write-out-3 : tie.Need-slice-write-out-3
 unfolding opened filled
 slice-write-out-3 c = omega (arith, spare (c .before .before .before .before .before .before .args .body .now) (c .before .before .before .before .before .before .args .out .now) (c .before .before .before .before .before .before .pre) (c .before .before .put-doubled .last .1 .0) (c .before .before .put-doubled .result) (c .before .before .put-doubled .ensures), long (c .before .before .before .before .before .before .args .body .now) (c .before .before .before .before .before .before .args .out .now) (c .before .before .before .before .before .before .pre) (c .before .before .put-doubled .last .1 .0) (c .before .before .put-doubled .result) (c .before .before .put-doubled .ensures))
 
--- src/lib.rt:77:9
 add-out : tie.Need-add-out
 unfolding opened
 add-out c = omega (arith, spare (c .before .before .before .before .before .before .args .body .now) (c .before .before .before .before .before .before .args .out .now) (c .before .before .before .before .before .before .pre) (c .before .before .put-doubled .last .1 .0) (c .before .before .put-doubled .result) (c .before .before .put-doubled .ensures), c .before .before .before .before .before .before .good .1 .0 .0)
 
--- src/lib.rt:77:5
 slice-write-out-4 : tie.Need-slice-write-out-4
 unfolding opened filled
 slice-write-out-4 c = room-last (c .before .before .before .before .before .before .args .body .now) (c .before .before .before .before .before .before .args .out .now) (c .before .before .before .before .before .before .pre) (c .before .before .put-doubled .last .1 .0) (c .before .before .put-doubled .result) (c .before .before .put-doubled .ensures)
 
--- src/lib.rt:78:5
 add-result : tie.Need-add-result
 unfolding opened
 add-result c = omega (arith, spare (c .before .before .before .before .before .before .args .body .now) (c .before .before .before .before .before .before .args .out .now) (c .before .before .before .before .before .before .pre) (c .before .before .put-doubled .last .1 .0) (c .before .before .put-doubled .result) (c .before .before .put-doubled .ensures), c .before .before .before .before .before .before .good .1 .0 .0)
 
--- src/lib.rt:68:1
 same-length : tie.Need-same-length
 unfolding opened filled
 same-length c = same (c .before .before .before .before .before .before .args .body .now) (c .before .before .before .before .before .before .args .out .now) (c .before .before .before .before .before .before .pre) (c .before .before .put-doubled .last .1 .0) (c .before .before .put-doubled .result) (c .before .before .put-doubled .ensures)
 
--- src/lib.rt:68:1
 returns : tie.Need-returns
 unfolding opened filled
 returns c = closed-wrote (c .before .before .before .before .before .before .args .body .now) (c .before .before .before .before .before .before .args .out .now) (c .before .before .before .before .before .before .pre) (c .before .before .put-doubled .last .1 .0) (c .before .before .put-doubled .result) (c .before .before .put-doubled .ensures)

@@ -15,13 +15,6 @@ use Rattle.printer.proofs.calls.ask.Statement.{statement}
 use Rattle.printer.proofs.calls.ask.Tie as tie
 use Rattle.printer.proofs.calls.ask.Reads as reads
 use Rattle.printer.proofs.calls.ask.Lts as lts
-use Rattle.negotiation.proofs.ask.Reads as ask-reads
-use Rattle.negotiation.proofs.asked_enable.Reads as asked-enable-reads
-use Rattle.negotiation.proofs.asked_side_printer.Reads as asked-side-printer-reads
-use Rattle.negotiation.proofs.asked_whose.Reads as asked-whose-reads
-use Rattle.negotiation.proofs.clashes.Reads as clashes-reads
-use Rattle.negotiation.proofs.is_carried.Reads as is-carried-reads
-use Rattle.negotiation.proofs.standing_of.Reads as standing-of-reads
 use Rattle.printer.proofs.calls.done.Reads as done-reads
 use Rattle.printer.proofs.calls.no_room.Reads as no-room-reads
 use Rattle.printer.proofs.calls.refused.Reads as refused-reads

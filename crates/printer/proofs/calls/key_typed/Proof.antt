@@ -6,7 +6,6 @@ use Rattle.printer.proofs.calls.key_typed.Tie as tie
 use Rattle.printer.proofs.calls.key_typed.Reads as reads
 use Rattle.printer.proofs.calls.key_typed.Lts as lts
 use Rattle.echo.proofs.pressed.Reads as pressed-reads
-use Rattle.echo.proofs.send_key.Reads as send-key-reads
 use Rattle.printer.proofs.on.echo.Reads as echo-reads
 use Rattle.printer.proofs.on.rcte.Reads as rcte-reads
 

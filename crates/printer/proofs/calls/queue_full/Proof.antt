@@ -4,7 +4,6 @@ use Rattle.printer.proofs.calls.queue_full.Statement.{statement}
 use Rattle.printer.proofs.calls.queue_full.Tie as tie
 use Rattle.printer.proofs.calls.queue_full.Reads as reads
 use Rattle.printer.proofs.calls.queue_full.Lts as lts
-use Rattle.echo.proofs.is_full.Reads as is-full-reads
 use Rattle.printer.proofs.on.rcte.Reads as rcte-reads
 
 -- src/calls.rt:113:8

@@ -6,8 +6,6 @@ use Rattle.printer.proofs.moves.macro_moved.Tie as tie
 use Rattle.printer.proofs.moves.macro_moved.Reads as reads
 use Rattle.printer.proofs.moves.macro_moved.Lts as lts
 use Rattle.macros.proofs.empty.Reads as empty-reads
-use Rattle.negotiation.proofs.moved.Reads as moved-reads
-use Rattle.negotiation.proofs.still_on.Reads as still-on-reads
 
 -- src/moves.rt:38:9
 moved-requires : tie.Need-moved-requires

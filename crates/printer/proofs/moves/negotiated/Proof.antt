@@ -9,13 +9,6 @@ use Rattle.printer.proofs.moves.negotiated.Reads as reads
 use Rattle.printer.proofs.moves.negotiated.Lts as lts
 use Rattle.codes.proofs.enables.Reads as enables-reads
 use Rattle.codes.proofs.whose_of.Reads as whose-of-reads
-use Rattle.negotiation.proofs.declined.Reads as declined-reads
-use Rattle.negotiation.proofs.free.Reads as free-reads
-use Rattle.negotiation.proofs.hear.Reads as hear-reads
-use Rattle.negotiation.proofs.is_carried.Reads as is-carried-reads
-use Rattle.negotiation.proofs.printer_side.Reads as printer-side-reads
-use Rattle.negotiation.proofs.put_reply.Reads as put-reply-reads
-use Rattle.negotiation.proofs.standing_of.Reads as standing-of-reads
 use Rattle.printer.proofs.moves.replied.Reads as replied-reads
 
 -- src/moves.rt:157:9

@@ -3,7 +3,6 @@ use Rattle.printer.proofs.moves.plainly_moved.Statement.{statement}
 use Rattle.printer.proofs.moves.plainly_moved.Tie as tie
 use Rattle.printer.proofs.moves.plainly_moved.Reads as reads
 use Rattle.printer.proofs.moves.plainly_moved.Lts as lts
-use Rattle.negotiation.proofs.moved.Reads as moved-reads
 use Rattle.printer.proofs.moves.quiet.Reads as quiet-reads
 
 -- src/moves.rt:71:9

@@ -9,8 +9,6 @@ use Rattle.printer.proofs.moves.rcte_moved.Tie as tie
 use Rattle.printer.proofs.moves.rcte_moved.Reads as reads
 use Rattle.printer.proofs.moves.rcte_moved.Lts as lts
 use Rattle.echo.proofs.started.Reads as started-reads
-use Rattle.negotiation.proofs.is_yes.Reads as is-yes-reads
-use Rattle.negotiation.proofs.moved.Reads as moved-reads
 use Rattle.printer.proofs.moves.quiet.Reads as quiet-reads
 use Rattle.printer.proofs.moves.rcte_ended.Reads as rcte-ended-reads
 use Rattle.printer.proofs.on.rcte.Reads as rcte-reads

@@ -7,7 +7,6 @@ use Rattle.printer.proofs.moves.replied.Statement.{statement}
 use Rattle.printer.proofs.moves.replied.Tie as tie
 use Rattle.printer.proofs.moves.replied.Reads as reads
 use Rattle.printer.proofs.moves.replied.Lts as lts
-use Rattle.negotiation.proofs.put_reply.Reads as put-reply-reads
 use Rattle.printer.proofs.moves.side_moved.Reads as side-moved-reads
 
 put-reply-requires : tie.Need-put-reply-requires

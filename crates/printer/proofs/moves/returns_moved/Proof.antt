@@ -5,8 +5,6 @@ use Rattle.printer.proofs.moves.returns_moved.Statement.{statement}
 use Rattle.printer.proofs.moves.returns_moved.Tie as tie
 use Rattle.printer.proofs.moves.returns_moved.Reads as reads
 use Rattle.printer.proofs.moves.returns_moved.Lts as lts
-use Rattle.negotiation.proofs.is_yes.Reads as is-yes-reads
-use Rattle.negotiation.proofs.moved.Reads as moved-reads
 
 -- src/moves.rt:54:9
 moved-requires : tie.Need-moved-requires

@@ -1,5 +1,5 @@
 use Rattle.printer.specs.Network.{dataRead}
-use Rattle.lists.proofs.Starts.{wrote-none, wrote-one}
+use Rattle.lists.proofs.Starts.{wrote-none, wrote-start}
 use lib.ListN.{length-set}
 use native.Mathlib.Omega.{arith}
 use mathlib.Core.Path.{_≡_, refl, sym, _∙_}
@@ -38,7 +38,7 @@ returns c =
     (record {
       met = λ lay. record {
         note = refl;
-        wrote = record { paper = wrote-one _ _ (start .pre); wire = wrote-none lay };
+        wrote = record { paper = wrote-start _ _ (start .pre); wire = wrote-none lay };
         view = rw (h .echo);
         clean = λ k. record { reader = k .reader; table = k .table; echo = h .clean (k .echo) };
       };
@@ -57,7 +57,7 @@ returns-2 c =
     (record {
       met = λ lay. record {
         note = refl;
-        wrote = record { paper = wrote-one _ _ (start .pre); wire = wrote-none lay };
+        wrote = record { paper = wrote-start _ _ (start .pre); wire = wrote-none lay };
         view = refl;
         clean = λ k. record { reader = k .reader; table = k .table; echo = k .echo };
       };

@@ -7,7 +7,7 @@ use borrow.Fn.Kinds.{In}
 use borrow.Fn.PlainCycle.{Measures, is, falls, and}
 use lib.ListN.{length}
 use Rattle.lists.specs.Buffers.{RoomFor}
-use Rattle.lists.proofs.Starts.{wrote-none, wrote-one}
+use Rattle.lists.proofs.Starts.{wrote-none, wrote-start}
 use Rattle.lists.proofs.Parts.{same-long}
 use Rattle.lists.proofs.Behind.{room-front, last-inside, last-place, wrote-last}
 use Rattle.tape.specs.Lines.{digits}
@@ -57,7 +57,7 @@ same-length : (t : ℕ) → put-digits-lts.Need-same-length (below t, put-digits
 same-length t c = search needs
 
 returns-2 : (t : ℕ) → put-digits-lts.Need-returns-2 (below t, put-digits.Post) (at t) put-digits.Post
-returns-2 t c = rw (one-digit _ _ (c .before .if1 .left) (c .if2 .taken)) (wrote-one _ _ (room-one t c))
+returns-2 t c = rw (one-digit _ _ (c .before .if1 .left) (c .if2 .taken)) (wrote-start _ _ (room-one t c))
 
 sub-put-digits : (t : ℕ) → put-digits-lts.Need-sub-put-digits (below t, put-digits.Post) (at t) put-digits.Post
 sub-put-digits t c = omega (arith, c .before .if1 .left)

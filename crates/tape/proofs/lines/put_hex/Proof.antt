@@ -5,7 +5,7 @@ use native.Mathlib.Omega.{arith}
 use borrow.Author.Needs.{needs}
 use lib.ListN.{length}
 use Rattle.lists.specs.Lists.{joined}
-use Rattle.lists.proofs.Starts.{wrote-one}
+use Rattle.lists.proofs.Starts.{wrote-start}
 use Rattle.tape.specs.Lines.{hexByte, hexOf}
 use Rattle.tape.proofs.lines.put_hex.Statement.{statement}
 use Rattle.tape.proofs.lines.put_hex.Tie as tie
@@ -28,7 +28,7 @@ same-length : tie.Need-same-length
 same-length c = search needs
 
 returns : tie.Need-returns
-returns c = rw (of-none _ (c .if1 .taken)) (wrote-one _ 45 (slice-write-out c))
+returns c = rw (of-none _ (c .if1 .taken)) (wrote-start _ _ (slice-write-out c))
 
 put-hex-bytes-requires : tie.Need-put-hex-bytes-requires
 put-hex-bytes-requires c κs =

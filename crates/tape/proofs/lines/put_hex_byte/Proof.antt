@@ -1,7 +1,7 @@
 use Prim.Native.Nat.{_≤_}
 use native.Mathlib.Omega.{arith}
 use lib.ListN.{length, length-set}
-use Rattle.lists.proofs.Starts.{wrote-two}
+use Rattle.lists.proofs.Starts.{wrote-start}
 use Rattle.tape.specs.Lines.{hexByte}
 use borrow.Author.Needs.{needs}
 use Rattle.tape.proofs.lines.put_hex_byte.Statement.{statement}
@@ -31,7 +31,7 @@ unfolding hexByte
 returns c =
     let low = c .hex-digit2 .ensures in
     let high = c .before .hex-digit .ensures in
-    rw (← high, ← low) (wrote-two _ _ _ (room (c .before .before .before)))
+    rw (← high, ← low) (wrote-start _ _ (room (c .before .before .before)))
 
 pub put-hex-byte-spec : {M : Type 1} → statement M
 put-hex-byte-spec =

@@ -1,0 +1,60 @@
+use mathlib.Core.Path.{_≡_, _∙_, ap, sym}
+use Prim.Native.Nat.{_<_, min}
+use native.Mathlib.Omega.{arith}
+use lib.ListN.{length}
+use borrow.Author.Needs.{needs}
+use borrow.Fn.Kinds.{GoodsP}
+use Rattle.keys.specs.declared.Key.{Key}
+use Rattle.keys.specs.declared.Key.the-variants.{Char, Line, Command}
+use Rattle.keys.specs.Packing.{packed, unpacked, ByteKey}
+use Rattle.keys.proofs.Packing.{unpacked-packed}
+use Rattle.echo.specs.declared.Echo.{Echo}
+use Rattle.echo.proofs.Cells.{count-of, queued-keys, queued-clean, queued-numbers}
+use Rattle.echo.proofs.waiting.queued.Statement.{statement}
+use Rattle.echo.proofs.waiting.queued.Kinds as kinds
+use Rattle.echo.proofs.waiting.queued.Tie as tie
+
+capped-requires : tie.Need-capped-requires
+capped-requires c κs = search needs
+
+pack-requires : tie.Need-pack-requires
+pack-requires c κs = search needs
+
+mul-waiting : tie.Need-mul-waiting
+mul-waiting c = search needs
+
+free : (c : tie.Start) → min (c .args .e .count) 256 < 256
+free c =
+    let e = c .args .e in
+    let l : length (e .waiting) ≡ 256 = search needs in
+    omega (arith, count-of (e .waiting) (e .count) l, c .pre)
+
+array-write-waiting : tie.Need-array-write-waiting
+array-write-waiting c = omega (arith, free (c .before .before .before), c .before .before .capped .ensures)
+
+add-more : tie.Need-add-more
+add-more c = search needs
+
+-- a key's numbers are bytes
+bytes : (e : Echo) (k : Key) → GoodsP {n = 0} tt kinds.ps (e, (k, tt)) → ByteKey k
+bytes e (Char b) g = omega arith
+bytes e Line g = tt
+bytes e (Command b) g = omega arith
+
+returns : tie.Need-returns
+returns c =
+    let start = c .before .before .before in
+    let e = start .args .e in
+    let k = start .args .k in
+    let l : length (e .waiting) ≡ 256 = search needs in
+    let same : unpacked (c .pack .result) ≡ k = ap unpacked (c .pack .ensures) ∙ unpacked-packed k (bytes e k (start .good)) in
+    rw (c .before .before .capped .ensures)
+    (record {
+      echo = rw (queued-keys (e .waiting) (e .count) l (c .pack .result) k (free start) same);
+      clean = λ h. record { waiting = queued-clean (e .waiting) (e .count) l (c .pack .result) (free start) (h .waiting); numbers = queued-numbers (e .waiting) (e .count) (c .pack .result) (ap packed same ∙ sym (c .pack .ensures)) (h .numbers); gathered = h .gathered };
+    })
+
+pub queued-spec : {M : Type 1} → statement M
+queued-spec =
+    tie.close
+    (tie.spec capped-requires pack-requires mul-waiting array-write-waiting add-more returns)

@@ -1,0 +1,147 @@
+// A key taken up: its paper, its bytes gathered, and what is sent.
+ghost use mathlib.Core.Path.{_≡_};
+ghost use Prim.Native.Nat.{_+_, _≤_};
+ghost use mathlib.Core.List.{[], _++_};
+ghost use lib.ListN.{length};
+ghost use Rattle.lists.specs.Buffers.{RoomFor, Wrote};
+ghost use Rattle.keys.specs.Keys.{keyWire};
+ghost use Rattle.echo.specs.Taking.{takenUp, sentPaper, sentFirst};
+ghost use Rattle.echo.specs.View.{WroteBoth};
+ghost use Rattle.echo.specs.Steps.{viewOrders, bytesIn, printed, staysFirst, Gathers, MetSent, MetTaken};
+use crate::Gathered;
+use crate::Orders;
+use crate::Sent;
+use crate::Taken;
+use crate::Written;
+use crate::commands;
+use crate::parts;
+use keys::Key;
+
+// How many bytes a key is on the wire.
+fn wire_length(k: Key) -> usize
+    ensures { λ r. ⌜ r ≡ length (keyWire k) ⌝ }
+{
+    match k {
+        Key::Char(b) => match b {
+            13 | 255 => 2,
+            _ => 1,
+        },
+        Key::Line => 2,
+        Key::Command(_) => 2,
+    }
+}
+
+// A taken key's paper.
+fn print(o: Orders, k: Key, paper: &mut [u8]) -> usize
+    requires { ⌜ RoomFor (printed (viewOrders o) k) (now paper) ⌝ }
+    ensures { λ r. ⌜ Wrote (printed (viewOrders o) k) (now (paper .entry)) (now (paper .exit)) r ⌝ }
+{
+    if commands::is_skipped(o, k) {
+        return 0;
+    }
+    keys::put_paper(k, paper)
+}
+
+// All gathered bytes are sent.
+pub fn flush(g: Gathered, wire: &mut [u8]) -> Sent
+    requires { ⌜ RoomFor (bytesIn g) (now wire) ⌝ }
+    ensures { λ r. ⌜ MetSent (bytesIn g) [] g (now (wire .entry)) (now (wire .exit)) r ⌝ }
+{
+    let n = parts::capped(g.filled, 512);
+    let cells = g.cells;
+    let count = wire::put_bytes(&cells[..n], wire);
+    let none = parts::no_bytes();
+    Sent {
+        count,
+        gathered: Gathered {
+            cells: none,
+            filled: 0,
+        },
+    }
+}
+
+// Gathered bytes that the key's would take past 512 are sent first.
+fn make_room(g: Gathered, k: Key, wire: &mut [u8]) -> Sent
+    requires { ⌜ RoomFor (sentFirst (bytesIn g) k) (now wire) ⌝ }
+    ensures { λ r. ⌜ MetSent (sentFirst (bytesIn g) k) (staysFirst (bytesIn g) k) g (now (wire .entry)) (now (wire .exit)) r ⌝ }
+{
+    let n = parts::capped(g.filled, 512);
+    let w = wire_length(k);
+    if 512 < n + w {
+        return flush(g, wire);
+    }
+    Sent {
+        count: 0,
+        gathered: g,
+    }
+}
+
+// The key's bytes behind the gathered ones.
+fn with_key(g: Gathered, k: Key) -> Gathered
+    requires { ⌜ length (bytesIn g) + length (keyWire k) ≤ 512 ⌝ }
+    ensures { λ r. ⌜ Gathers (bytesIn g ++ keyWire k) g r ⌝ }
+{
+    let n = parts::capped(g.filled, 512);
+    let mut cells = g.cells;
+    let w = wire::put_key(k, &mut cells[n..]);
+    Gathered {
+        cells,
+        filled: n + w,
+    }
+}
+
+// The key's bytes are gathered; a break or a transmission character then sends all gathered bytes.
+fn gather(o: Orders, g: Gathered, k: Key, wire: &mut [u8]) -> Sent
+    requires { ⌜ RoomFor (takenUp (viewOrders o) (bytesIn g) k .wire) (now wire) ⌝ }
+    ensures { λ r. ⌜ MetSent (takenUp (viewOrders o) (bytesIn g) k .wire) (takenUp (viewOrders o) (bytesIn g) k .gathered) g (now (wire .entry)) (now (wire .exit)) r ⌝ }
+{
+    let first = make_room(g, k, wire);
+    let n = first.count;
+    let kept = first.gathered;
+    let all = with_key(kept, k);
+    if commands::flushes(o, k) {
+        let last = flush(all, &mut wire[n..]);
+        let m = last.count;
+        let gathered = last.gathered;
+        return Sent {
+            count: n + m,
+            gathered,
+        };
+    }
+    Sent {
+        count: n,
+        gathered: all,
+    }
+}
+
+pub fn take_up(o: Orders, g: Gathered, k: Key, paper: &mut [u8], wire: &mut [u8]) -> Taken
+    requires { ⌜ RoomFor (takenUp (viewOrders o) (bytesIn g) k .paper) (now paper) ⌝ }
+    requires { ⌜ RoomFor (takenUp (viewOrders o) (bytesIn g) k .wire) (now wire) ⌝ }
+    ensures { λ r. ⌜ MetTaken (takenUp (viewOrders o) (bytesIn g) k) g (now (paper .entry)) (now (paper .exit)) (now (wire .entry)) (now (wire .exit)) r ⌝ }
+{
+    let p = print(o, k, paper);
+    let sent = gather(o, g, k, wire);
+    let w = sent.count;
+    let gathered = sent.gathered;
+    let broke = commands::is_break(o, k);
+    Taken {
+        paper: p,
+        wire: w,
+        broke,
+        gathered,
+    }
+}
+
+// A key sent at once, without RCTE or as it ends: printed unless the other end echoes.
+pub fn send_key(k: Key, echoed: bool, paper: &mut [u8], wire: &mut [u8]) -> Written
+    requires { ⌜ RoomFor (sentPaper echoed k) (now paper) ⌝ }
+    requires { ⌜ RoomFor (keyWire k) (now wire) ⌝ }
+    ensures { λ r. ⌜ WroteBoth (sentPaper echoed k) (keyWire k) (now (paper .entry)) (now (paper .exit)) (now (wire .entry)) (now (wire .exit)) r ⌝ }
+{
+    let w = wire::put_key(k, wire);
+    if echoed {
+        return Written { paper: 0, wire: w };
+    }
+    let p = keys::put_paper(k, paper);
+    Written { paper: p, wire: w }
+}

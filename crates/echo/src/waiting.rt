@@ -1,0 +1,138 @@
+// The keys that wait: one more of them, those left behind the first, and all of them taken up or sent.
+ghost use mathlib.Core.Path.{_≡_};
+ghost use Prim.Native.Nat.{_+_, _-_, _≤_, _<_, min};
+ghost use mathlib.Core.List.{_++_};
+ghost use lib.ListN.{length, take, drop, replicate};
+ghost use Rattle.lists.specs.Lists.{joined};
+ghost use Rattle.lists.specs.Buffers.{RoomFor};
+ghost use Rattle.keys.specs.Keys.{keyWire};
+ghost use Rattle.echo.specs.Taking.{sentPaper};
+ghost use Rattle.echo.specs.Control as control;
+ghost use Rattle.echo.specs.View.{waitingIn, viewEcho, Kept, MetEchoed, WroteBoth};
+ghost use Rattle.echo.specs.Steps.{bytesIn, releasing, leftAt, Left};
+use crate::Echo;
+use crate::Echoed;
+use crate::Gathered;
+use crate::Stop;
+use crate::Written;
+use crate::parts;
+use crate::taking;
+use keys::Key;
+
+// 256 keys already wait.
+pub fn is_full(e: Echo) -> bool
+    ensures { λ r. ⌜ r ≡ control.isFull (viewEcho e) ⌝ }
+{
+    if e.held { 256 <= e.count } else { false }
+}
+
+// A key put behind those that wait.
+pub fn queued(e: Echo, k: Key) -> Echo
+    requires { ⌜ length (waitingIn e) < 256 ⌝ }
+    ensures { λ r. ⌜ Kept (control.queued (viewEcho e) k) e r ⌝ }
+{
+    let count = parts::capped(e.count, 256);
+    let mut waiting = e.waiting;
+    let packed = keys::pack(k);
+    waiting[count] = packed;
+    let mut more = e;
+    more.waiting = waiting;
+    more.count = count + 1;
+    more
+}
+
+// The keys that still wait behind the first ones, in an empty queue.
+fn keys_from(cells: [u16; 256], taken: usize, count: usize) -> [u16; 256]
+    requires { ⌜ taken + count ≤ 256 ⌝ }
+    ensures { λ r. ⌜ r ≡ take count (drop taken cells) ++ replicate (256 - count) 0 ⌝ }
+{
+    let mut rest = parts::no_keys();
+    let mut n: usize = 0;
+    while n < count {
+        rest[n] = cells[taken + n];
+        n += 1;
+    }
+    rest
+}
+
+// The state once so many of the waiting keys were taken up.
+pub fn left(e: Echo, g: Gathered, at: usize, held: bool) -> Echo
+    requires { ⌜ at ≤ min (e .count) 256 ⌝ }
+    ensures { λ r. ⌜ Left (leftAt (viewEcho e) (bytesIn g) at held) g e r ⌝ }
+{
+    let count = parts::capped(e.count, 256) - at;
+    let cells = e.waiting;
+    let waiting = keys_from(cells, at, count);
+    let gathered = g.cells;
+    let action = e.action;
+    Echo {
+        held,
+        action,
+        breaks: e.breaks,
+        sends: e.sends,
+        waiting,
+        count,
+        gathered,
+        filled: g.filled,
+    }
+}
+
+// Takes up waiting keys one after the other, the first break being the last; if none breaks, the hold is over.
+pub fn release(e: Echo, paper: &mut [u8], wire: &mut [u8]) -> Echoed
+    requires { ⌜ RoomFor (releasing (viewEcho e) .paper) (now paper) ⌝ }
+    requires { ⌜ RoomFor (releasing (viewEcho e) .wire) (now wire) ⌝ }
+    ensures { λ r. ⌜ MetEchoed (releasing (viewEcho e)) e (now (paper .entry)) (now (paper .exit)) (now (wire .entry)) (now (wire .exit)) r ⌝ }
+{
+    let count = parts::capped(e.count, 256);
+    let cells = e.waiting;
+    let o = parts::orders_of(e);
+    let mut g = parts::gathered_of(e);
+    let mut i: usize = 0;
+    let mut p: usize = 0;
+    let mut w: usize = 0;
+    let stop = loop {
+        if i >= count {
+            break Stop::All;
+        }
+        let k = keys::unpack(cells[i]);
+        let t = taking::take_up(o, g, k, &mut paper[p..], &mut wire[w..]);
+        let kept = t.gathered;
+        g = kept;
+        p += t.paper;
+        w += t.wire;
+        i += 1;
+        if t.broke {
+            break Stop::At(i);
+        }
+    };
+    let echo = match stop {
+        Stop::All => left(e, g, count, false),
+        Stop::At(at) => left(e, g, at, true),
+    };
+    Echoed {
+        paper: p,
+        wire: w,
+        echo,
+    }
+}
+
+// All waiting keys are sent at once.
+pub fn send_waiting(e: Echo, echoed: bool, paper: &mut [u8], wire: &mut [u8]) -> Written
+    requires { ⌜ RoomFor (joined (λ k. sentPaper echoed k) (waitingIn e)) (now paper) ⌝ }
+    requires { ⌜ RoomFor (joined keyWire (waitingIn e)) (now wire) ⌝ }
+    ensures { λ r. ⌜ WroteBoth (joined (λ k. sentPaper echoed k) (waitingIn e)) (joined keyWire (waitingIn e)) (now (paper .entry)) (now (paper .exit)) (now (wire .entry)) (now (wire .exit)) r ⌝ }
+{
+    let count = parts::capped(e.count, 256);
+    let cells = e.waiting;
+    let mut i: usize = 0;
+    let mut p: usize = 0;
+    let mut w: usize = 0;
+    while i < count {
+        let k = keys::unpack(cells[i]);
+        let sent = taking::send_key(k, echoed, &mut paper[p..], &mut wire[w..]);
+        p += sent.paper;
+        w += sent.wire;
+        i += 1;
+    }
+    Written { paper: p, wire: w }
+}

@@ -1,0 +1,132 @@
+// The sides that each end carries, their states, and ECHO against RCTE.
+ghost use mathlib.Core.Path.{_≡_};
+ghost use Rattle.negotiation.specs.Carried.{printerSide, bulletinSide, isCarried, standing, moved, free, clashes};
+use crate::Side;
+use crate::Sides;
+use crate::Standing;
+use crate::table;
+use codes::Whose;
+
+// What the printer end carries: four options on his side, two on ours.
+pub fn printer_side(w: Whose, option: u8) -> Side
+    ensures { λ r. ⌜ r ≡ printerSide w option ⌝ }
+{
+    match w {
+        Whose::His => match option {
+            1 => Side::Echo,
+            3 => Side::BulletinSga,
+            7 => Side::Rcte,
+            19 => Side::Macro,
+            _ => Side::Uncarried,
+        },
+        Whose::Ours => match option {
+            3 => Side::PrinterSga,
+            10 => Side::Returns,
+            _ => Side::Uncarried,
+        },
+    }
+}
+
+// The bulletin end carries the mirror of this.
+pub fn bulletin_side(w: Whose, option: u8) -> Side
+    ensures { λ r. ⌜ r ≡ bulletinSide w option ⌝ }
+{
+    printer_side(codes::other_side(w), option)
+}
+
+pub fn is_carried(side: Side) -> bool
+    ensures { λ r. ⌜ r ≡ isCarried side ⌝ }
+{
+    match side {
+        Side::Echo => true,
+        Side::BulletinSga => true,
+        Side::Rcte => true,
+        Side::Macro => true,
+        Side::PrinterSga => true,
+        Side::Returns => true,
+        Side::Uncarried => false,
+    }
+}
+
+pub fn standing_of(s: Sides, side: Side) -> Standing
+    ensures { λ r. ⌜ r ≡ standing s side ⌝ }
+{
+    match side {
+        Side::Echo => s.echo,
+        Side::BulletinSga => s.sga,
+        Side::Rcte => s.rcte,
+        Side::Macro => s.bm,
+        Side::PrinterSga => s.printersga,
+        Side::Returns => s.naocrd,
+        Side::Uncarried => Standing::No,
+    }
+}
+
+fn sides_of(
+    echo: Standing,
+    sga: Standing,
+    rcte: Standing,
+    bm: Standing,
+    printersga: Standing,
+    naocrd: Standing,
+) -> Sides
+    ensures { λ r. ⌜ r ≡ record { echo = echo; sga = sga; rcte = rcte; bm = bm; printersga = printersga; naocrd = naocrd } ⌝ }
+{
+    Sides {
+        echo,
+        sga,
+        rcte,
+        bm,
+        printersga,
+        naocrd,
+    }
+}
+
+// The sides with one of them at q.
+pub fn moved(s: Sides, side: Side, q: Standing) -> Sides
+    ensures { λ r. ⌜ r ≡ moved s side q ⌝ }
+{
+    let echo = s.echo;
+    let sga = s.sga;
+    let rcte = s.rcte;
+    let bm = s.bm;
+    let printersga = s.printersga;
+    let naocrd = s.naocrd;
+    match side {
+        Side::Echo => sides_of(q, sga, rcte, bm, printersga, naocrd),
+        Side::BulletinSga => sides_of(echo, q, rcte, bm, printersga, naocrd),
+        Side::Rcte => sides_of(echo, sga, q, bm, printersga, naocrd),
+        Side::Macro => sides_of(echo, sga, rcte, q, printersga, naocrd),
+        Side::PrinterSga => sides_of(echo, sga, rcte, bm, q, naocrd),
+        Side::Returns => sides_of(echo, sga, rcte, bm, printersga, q),
+        Side::Uncarried => s,
+    }
+}
+
+// Whether a request of the side is agreed: ECHO is not while RCTE is away from NO, nor the reverse.
+pub fn free(s: Sides, side: Side) -> bool
+    ensures { λ r. ⌜ r ≡ free s side ⌝ }
+{
+    let echo = s.echo;
+    let rcte = s.rcte;
+    match side {
+        Side::Echo => table::is_no(rcte),
+        Side::BulletinSga => true,
+        Side::Rcte => table::is_no(echo),
+        Side::Macro => true,
+        Side::PrinterSga => true,
+        Side::Returns => true,
+        Side::Uncarried => false,
+    }
+}
+
+// Whether an ask meets ECHO against RCTE.
+pub fn clashes(s: Sides, side: Side, enable: bool) -> bool
+    ensures { λ r. ⌜ r ≡ clashes s side enable ⌝ }
+{
+    if enable {
+        table::is_no(standing_of(s, side)) && !free(s, side)
+    } else {
+        false
+    }
+}
