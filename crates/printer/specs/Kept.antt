@@ -3,12 +3,16 @@ use mathlib.Core.Path.{_≡_}
 use mathlib.Core.Bool.{Bool, true, false}
 use mathlib.Core.List.{List, [], _++_}
 use Prim.Native.Nat.{ℕ}
-use lib.ListN.{take}
+use lib.ListN.{length, take}
 use Rattle.lists.specs.Buffers.{Wrote}
 use Rattle.codes.specs.declared.Code.{Code}
 use Rattle.codes.specs.declared.Code.the-variants.{Done}
 use Rattle.codes.specs.declared.Note.{Note}
 use Rattle.codes.specs.declared.Note.the-variants.{Clear}
+use Rattle.reader.specs.Reading.{bodyRoom}
+use Rattle.macros.specs.Texts.{textRoom}
+use Rattle.echo.specs.Taking.{gatherRoom}
+use Rattle.echo.specs.Control.{waitRoom}
 use Rattle.reader.specs.Kept.{viewReader, CleanReader}
 use Rattle.macros.specs.Packed.{viewTexts, CleanTexts}
 use Rattle.echo.specs.View.{viewEcho, CleanEcho}
@@ -31,6 +35,13 @@ pub record CleanPrinter (p : code-printer.Printer) : Type 0 where
   pub table : CleanTexts (p .table)
   pub echo : CleanEcho (p .echo)
 
+-- the arrays have the lengths of their types
+pub record Whole (p : code-printer.Printer) : Type 0 where
+  pub body : length (p .reader .body) ≡ bodyRoom
+  pub cells : length (p .table .cells) ≡ textRoom
+  pub waiting : length (p .echo .waiting) ≡ waitRoom
+  pub gathered : length (p .echo .gathered) ≡ gatherRoom
+
 -- the bytes that were written to the two lent buffers, from what they held to what they hold
 pub record WroteTo (d : Did) (held held′ lay lay′ : List ℕ) (n m : ℕ) : Type 0 where
   pub paper : Wrote (d .paper) held held′ n
@@ -51,6 +62,7 @@ pub record MetAnswer (a : Answer) (p : code-printer.Printer) (held held′ lay l
   pub wrote : WroteTo (a .did) held held′ lay lay′ (r .paper) (r .wire)
   pub view : viewPrinter (r .state) ≡ a .did .state
   pub clean : CleanPrinter p → CleanPrinter (r .state)
+  pub whole : Whole p → Whole (r .state)
   pub same : (a .code ≡ Done → ⊥) → r .state ≡ p
 
 -- the code's answers: a refusal, with the state that was given and nothing written, and a step that was done
@@ -94,3 +106,4 @@ bodyEndRead s = itemRead s BodyEnd
 pub record MetFresh (p : code-printer.Printer) : Type 0 where
   pub view : viewPrinter p ≡ fresh
   pub clean : CleanPrinter p
+  pub whole : Whole p

@@ -7,7 +7,7 @@ ghost use Rattle.echo.specs.Control.{isFull};
 ghost use Rattle.printer.specs.State.{rcteOn};
 ghost use Rattle.printer.specs.Calls.{networkCall, keyCall, keyTyped, badKey, askCall, suggestCall, returnsReport};
 ghost use Rattle.lists.specs.Buffers.{RoomFor};
-ghost use Rattle.printer.specs.Kept.{viewPrinter, MetAnswer, MetStep, MetFresh, refusal, answered};
+ghost use Rattle.printer.specs.Kept.{Whole, viewPrinter, MetAnswer, MetStep, MetFresh, refusal, answered};
 use crate::Answer;
 use crate::Printer;
 use crate::Step;
@@ -61,7 +61,7 @@ fn refused(s: Printer, code: Code) -> Answer
 }
 
 fn done(step: Step) -> Answer
-    ensures { λ r. ⌜ r ≡ answered step ⌝ }
+    ensures { λ r. ⌜ (r ≡ answered step) × Whole (step .state) ⌝ }
 {
     let state = step.state;
     let note = step.note;

@@ -54,7 +54,7 @@ unfolding networkCall guarded
 returns-2 c =
     let read = c .before .before .before .before .before in
     let room = read .before .before .before in
-    rw (sym (room .before .no-room .ensures) ∙ room .if1 .left, c .done .ensures) (met-done (read .network-read .ensures))
+    rw (sym (room .before .no-room .ensures) ∙ room .if1 .left, c .done .ensures .0) (met-done (read .network-read .ensures) (c .done .ensures .1))
 
 pub network-byte-spec : {M : Type 1} → statement M
 network-byte-spec = tie.close (tie.spec no-room-requires refused-requires returns network-read-requires done-requires same-length same-length-2 returns-2)
