@@ -21,10 +21,10 @@ pub fn data_read(s: Printer, b: u8, paper: &mut [u8]) -> Step
 {
     paper[0] = b;
     let sides = s.sides;
-    let mut t = s;
     if on::rcte(sides) {
         let control = s.echo;
         let held = echo::holding(control);
+        let mut t = s;
         t.echo = held;
         return Step {
             note: Note::Clear,
@@ -37,7 +37,7 @@ pub fn data_read(s: Printer, b: u8, paper: &mut [u8]) -> Step
         note: Note::Clear,
         paper: 1,
         wire: 0,
-        state: t,
+        state: s,
     }
 }
 
@@ -56,13 +56,17 @@ fn item_read(s: Printer, item: Item, paper: &mut [u8], wire: &mut [u8]) -> Step
     }
 }
 
-// A byte read as it stands.
+// A byte read as it stands. One that is data leaves the reader as it is, so that the state is not copied for it.
 pub fn byte_read(s: Printer, b: u8, paper: &mut [u8], wire: &mut [u8]) -> Step
     requires { ⌜ RoomFor (byteRead (viewPrinter s) b .paper) (now paper) ⌝ }
     requires { ⌜ RoomFor (byteRead (viewPrinter s) b .wire) (now wire) ⌝ }
     ensures { λ r. ⌜ MetStep (byteRead (viewPrinter s) b) s (now (paper .entry)) (now (paper .exit)) (now (wire .entry)) (now (wire .exit)) r ⌝ }
 {
     let old = s.reader;
+    let phase = old.phase;
+    if reader::is_data(phase, b) {
+        return data_read(s, b, paper);
+    }
     let read = reader::read_byte(old, b);
     let item = read.item;
     let next = read.reader;
@@ -131,7 +135,8 @@ pub fn network_read(s: Printer, b: u8, paper: &mut [u8], wire: &mut [u8]) -> Ste
         return byte_read(s, b, paper, wire);
     }
     let reading = s.reader;
-    if !reader::is_between(reading) {
+    let phase = reading.phase;
+    if !reader::is_between(phase) {
         return byte_read(s, b, paper, wire);
     }
     defined_read(s, b, paper, wire)
