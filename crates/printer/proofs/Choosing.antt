@@ -1,6 +1,7 @@
 -- Which way a network byte is read.
 use mathlib.Core.Path.{_≡_, refl, sym, ap, _∙_}
-use mathlib.Core.Bool.{Bool, true, false, _&&_, not, false≢true}
+use mathlib.Core.Bool.{Bool, true, false, _&&_, _||_, not, false≢true}
+use mathlib.Core.List.{[], _∷_}
 use Prim.Native.Nat.{ℕ}
 use Rattle.lists.specs.Choice.{pick}
 use Rattle.macros.specs.Texts.{Entry, plain, text, entryOf}
@@ -12,7 +13,8 @@ use Rattle.reader.specs.declared.Phase.{Phase}
 use Rattle.reader.specs.declared.Phase.the-variants.{Between, AfterIac, AfterVerb, InBody, InBodyAfterIac}
 use Rattle.reader.specs.declared.Item.the-variants.{Data}
 use Rattle.reader.specs.Reading.{Read, read, readIn, gives, isBetween, isData}
-use Rattle.printer.specs.State.{Printer, Did, macrosOn}
+use Rattle.printer.specs.State.{Printer, Did, printing, rcteOn, macrosOn}
+use Rattle.printer.specs.Kept.{isOrdinary}
 use Rattle.printer.specs.Network.{dataRead, afterRead, byteRead, entryRead, networkRead}
 
 both-same : {D : Type 0} (t : Bool) (x y : D) → x ≡ y → pick t x y ≡ y
@@ -63,3 +65,13 @@ unfolding networkRead
 chosen-read s b m t =
     let f : (macrosOn s && isBetween (s .reader .phase)) ≡ true = rw (m, t) in
     ap (λ (x : Bool). pick x (entryRead s b (entryOf (s .table) b)) (byteRead s b)) f
+
+-- an ordinary byte is printed, and nothing else happens
+pub ordinary-read : (s : Printer) (b : ℕ) → isOrdinary (s .sides) (s .reader .phase) b ≡ true → networkRead s b ≡ printing (b ∷ []) s
+unfolding dataRead
+ordinary-read s b e = go (macrosOn s) (rcteOn s) refl refl e
+  where
+    go : (m r : Bool) → macrosOn s ≡ m → rcteOn s ≡ r → not (m || r) && isData (s .reader .phase) b ≡ true → networkRead s b ≡ printing (b ∷ []) s
+    go true r p q f = absurd (false≢true f)
+    go false true p q f = absurd (false≢true f)
+    go false false p q f = off-read s b p ∙ data-byte s b f ∙ (rw q)

@@ -1,6 +1,6 @@
 -- The printer end as the code keeps it: its view, its clean cells, and how a step and an answer of the code meet the rules.
 use mathlib.Core.Path.{_≡_}
-use mathlib.Core.Bool.{Bool, true, false}
+use mathlib.Core.Bool.{Bool, true, false, not, _&&_, _||_}
 use mathlib.Core.List.{List, [], _++_}
 use Prim.Native.Nat.{ℕ}
 use lib.ListN.{length, take}
@@ -9,7 +9,8 @@ use Rattle.codes.specs.declared.Code.{Code}
 use Rattle.codes.specs.declared.Code.the-variants.{Done}
 use Rattle.codes.specs.declared.Note.{Note}
 use Rattle.codes.specs.declared.Note.the-variants.{Clear}
-use Rattle.reader.specs.Reading.{bodyRoom}
+use Rattle.reader.specs.declared.Phase.{Phase}
+use Rattle.reader.specs.Reading.{bodyRoom, isData}
 use Rattle.macros.specs.Texts.{textRoom}
 use Rattle.echo.specs.Taking.{gatherRoom}
 use Rattle.echo.specs.Control.{waitRoom}
@@ -23,6 +24,8 @@ use Rattle.macros.specs.declared.Text.{Text}
 use Rattle.reader.specs.declared.Item.the-variants.{BodyEnd}
 use Rattle.negotiation.specs.declared.Side.{Side}
 use Rattle.negotiation.specs.declared.Standing.{Standing}
+use Rattle.negotiation.specs.declared.Sides.{Sides}
+use Rattle.negotiation.specs.Table.{isYes, stillOn}
 use Rattle.negotiation.specs.Carried.{moved}
 use Rattle.printer.specs.State.{Printer, Did, Answer, fresh}
 use Rattle.printer.specs.Network.{itemRead}
@@ -94,6 +97,10 @@ pub record MetWire (d : Did) (p : code-printer.Printer) (lay lay′ : List ℕ) 
 
 pub record MetPaper (d : Did) (p : code-printer.Printer) (held held′ : List ℕ) (r : Step) : Type 0 where
   pub met : (lay : List ℕ) → MetStep d p held held′ lay lay r
+
+-- a byte that is data, with no macro to replace it and no RCTE to hold behind it
+abbrev pub isOrdinary : Sides → Phase → ℕ → Bool
+isOrdinary sides phase b = not (stillOn (sides .bm) || isYes (sides .rcte)) && isData phase b
 
 -- the text that a copy has
 abbrev pub textIn : Text → List ℕ

@@ -90,6 +90,19 @@ pub fn network_byte(s: Printer, b: u8, paper: &mut [u8], wire: &mut [u8]) -> Ans
     if no_room(paper.len(), wire.len()) {
         return refused(s, Code::NoRoom);
     }
+    let sides = s.sides;
+    let reading = s.reader;
+    let phase = reading.phase;
+    if network::is_ordinary(sides, phase, b) {
+        paper[0] = b;
+        return Answer {
+            code: Code::Done,
+            note: Note::Clear,
+            paper: 1,
+            wire: 0,
+            state: s,
+        };
+    }
     let step = network::network_read(s, b, paper, wire);
     done(step)
 }

@@ -4,7 +4,7 @@ ghost use Prim.Native.Nat.{_≤_};
 ghost use Rattle.lists.specs.Buffers.{RoomFor};
 ghost use Rattle.printer.specs.Network.{dataRead, itemRead, byteRead, bytesRead, entryRead, networkRead};
 ghost use Rattle.macros.specs.Texts.{entryOf};
-ghost use Rattle.printer.specs.Kept.{viewPrinter, MetStep, MetPaper, textIn};
+ghost use Rattle.printer.specs.Kept.{viewPrinter, MetStep, MetPaper, textIn, isOrdinary};
 use crate::Printer;
 use crate::Step;
 use crate::body;
@@ -12,7 +12,22 @@ use crate::moves;
 use crate::on;
 use codes::Note;
 use macros::Text;
+use negotiation::Sides;
 use reader::Item;
+use reader::Phase;
+
+// Data that is printed and changes nothing: the state is then handed on without a copy of any part.
+pub fn is_ordinary(sides: Sides, phase: Phase, b: u8) -> bool
+    ensures { λ r. ⌜ r ≡ isOrdinary sides phase b ⌝ }
+{
+    if on::macros(sides) {
+        return false;
+    }
+    if on::rcte(sides) {
+        return false;
+    }
+    reader::is_data(phase, b)
+}
 
 // Data is printed as it is; under RCTE it then holds.
 pub fn data_read(s: Printer, b: u8, paper: &mut [u8]) -> Step
