@@ -5,6 +5,11 @@ use crate::Side;
 use crate::Sides;
 use crate::Standing;
 use crate::table;
+use codes::BM;
+use codes::ECHO;
+use codes::NAOCRD;
+use codes::RCTE;
+use codes::SGA;
 use codes::Whose;
 
 // What the printer end carries: four options on his side, two on ours.
@@ -13,15 +18,15 @@ pub fn printer_side(w: Whose, option: u8) -> Side
 {
     match w {
         Whose::His => match option {
-            1 => Side::Echo,
-            3 => Side::BulletinSga,
-            7 => Side::Rcte,
-            19 => Side::Macro,
+            ECHO => Side::Echo,
+            SGA => Side::BulletinSga,
+            RCTE => Side::Rcte,
+            BM => Side::Macro,
             _ => Side::Uncarried,
         },
         Whose::Ours => match option {
-            3 => Side::PrinterSga,
-            10 => Side::Returns,
+            SGA => Side::PrinterSga,
+            NAOCRD => Side::Returns,
             _ => Side::Uncarried,
         },
     }

@@ -20,7 +20,13 @@ use bodies::MacroBody;
 use bodies::MacroCommand;
 use bodies::RcteBody;
 use bodies::ValueBody;
+use codes::ACCEPT;
+use codes::BM;
+use codes::DS;
+use codes::NAOCRD;
 use codes::Note;
+use codes::RCTE;
+use codes::REFUSE;
 use disposition::Values;
 use macros::Verdict;
 use reader::Reader;
@@ -51,7 +57,7 @@ fn rcte_read(s: Printer, body: &[u8], paper: &mut [u8], wire: &mut [u8]) -> Step
 fn value_read(s: Printer, body: &[u8]) -> Step
     ensures { λ r. ⌜ MetQuietly (valueRead (viewPrinter s) (valueBody DS (now (body .entry)))) s r ⌝ }
 {
-    let ValueBody::Readable(value) = bodies::value_body(1, body) else {
+    let ValueBody::Readable(value) = bodies::value_body(DS, body) else {
         return moves::quiet(s, Note::Unreadable);
     };
     let old = s.values;
@@ -71,11 +77,11 @@ fn put_verdict(v: Verdict, x: u8, wire: &mut [u8]) -> usize
 {
     match v {
         Verdict::Accepted => {
-            let body = [19u8, 2, x];
+            let body = [BM, ACCEPT, x];
             wire::put_frame(&body, wire)
         }
         Verdict::Refused(reason) => {
-            let body = [19u8, 3, x, reason];
+            let body = [BM, REFUSE, x, reason];
             wire::put_frame(&body, wire)
         }
     }
@@ -126,19 +132,19 @@ fn option_read(s: Printer, body: &[u8], paper: &mut [u8], wire: &mut [u8]) -> St
     let sides = s.sides;
     let option = body[0];
     match option {
-        7 => {
+        RCTE => {
             if on::rcte(sides) {
                 return rcte_read(s, body, paper, wire);
             }
             moves::quiet(s, Note::Inactive)
         }
-        10 => {
+        NAOCRD => {
             if on::returns(sides) {
                 return value_read(s, body);
             }
             moves::quiet(s, Note::Inactive)
         }
-        19 => {
+        BM => {
             if on::macros(sides) {
                 return macro_read(s, body, paper, wire);
             }

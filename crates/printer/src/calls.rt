@@ -15,7 +15,11 @@ use crate::moves;
 use crate::network;
 use crate::on;
 use codes::Code;
+use codes::DR;
+use codes::NAOCRD;
 use codes::Note;
+use codes::PAPER_ROOM;
+use codes::WIRE_ROOM;
 use disposition::Handling;
 use disposition::Values;
 use keys::Key;
@@ -78,10 +82,10 @@ fn done(step: Step) -> Answer
 fn no_room(paper: usize, wire: usize) -> bool
     ensures { λ r. ⌜ r ≡ noRoom paper wire ⌝ }
 {
-    if paper < 1024 {
+    if paper < PAPER_ROOM {
         return true;
     }
-    wire < 2048
+    wire < WIRE_ROOM
 }
 
 pub fn network_byte(s: Printer, b: u8, paper: &mut [u8], wire: &mut [u8]) -> Answer
@@ -208,7 +212,7 @@ pub fn suggest(s: Printer, v: u8, paper: &mut [u8], wire: &mut [u8]) -> Answer
     if v == old.dr {
         return refused(s, Code::AlreadySo);
     }
-    let body = [10u8, 0, v];
+    let body = [NAOCRD, DR, v];
     let n = wire::put_frame(&body, wire);
     let values = Values { ds: old.ds, dr: v };
     let mut t = s;
