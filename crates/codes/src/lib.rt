@@ -1,6 +1,6 @@
 // What a call answers: a code and a note. Which side of an option is meant. Telnet's and the options' numbers.
 ghost use mathlib.Core.Path.{_≡_};
-ghost use Rattle.codes.specs.Answers.{codeNumber, noteNumber, firstNote};
+ghost use Rattle.codes.specs.Answers.{codeNumber, noteNumber, firstNote, noRoom};
 ghost use Rattle.codes.specs.Telnet.{verbNumber, whoseOf, enables, plainCommand, otherSide};
 
 // The commands of RFC 854 that are told apart; NOP to GA may be keys.
@@ -140,6 +140,16 @@ pub fn first_note(a: Note, b: Note) -> Note
         Note::OtherOption => Note::OtherOption,
         Note::Stray => Note::Stray,
     }
+}
+
+// Code 1: a lent buffer that is too small.
+pub fn no_room(paper: usize, wire: usize) -> bool
+    ensures { λ r. ⌜ r ≡ noRoom paper wire ⌝ }
+{
+    if paper < PAPER_ROOM {
+        return true;
+    }
+    wire < WIRE_ROOM
 }
 
 // The byte behind IAC.

@@ -3,11 +3,17 @@ ghost use mathlib.Core.Path.{_≡_};
 ghost use mathlib.Core.List.{[], _∷_};
 ghost use lib.ListN.{replicate};
 ghost use Rattle.lists.specs.Buffers.{RoomFor, Wrote};
-ghost use Rattle.disposition.specs.Returns.{handling, awaits, isReturn, padded, lineBytes, returnBytes};
+ghost use Rattle.disposition.specs.Returns.{unspoken, withDs, withDr, suggestion, handling, awaits, isReturn, padded, lineBytes, returnBytes};
+use codes::NAOCRD;
 use keys::CR;
 use keys::Key;
 use keys::LF;
 use keys::NUL;
+
+// DS and DR as they count until they are suggested.
+pub const UNSPOKEN_DS: u8 = 255;
+
+const UNSPOKEN_DR: u8 = 0;
 
 // What a value asks of the end that handles: up to that many NULs behind a carriage return; to leave it out; to wait.
 const MOST_NULS: u8 = 250;
@@ -26,6 +32,36 @@ pub struct Values {
 pub enum Handling {
     Sender(u8),
     Receiver(u8),
+}
+
+pub fn unspoken() -> Values
+    ensures { λ r. ⌜ r ≡ unspoken ⌝ }
+{
+    Values {
+        ds: UNSPOKEN_DS,
+        dr: UNSPOKEN_DR,
+    }
+}
+
+pub fn with_ds(v: Values, ds: u8) -> Values
+    ensures { λ r. ⌜ r ≡ withDs v ds ⌝ }
+{
+    Values { ds, dr: v.dr }
+}
+
+pub fn with_dr(v: Values, dr: u8) -> Values
+    ensures { λ r. ⌜ r ≡ withDr v dr ⌝ }
+{
+    Values { ds: v.ds, dr }
+}
+
+// A value as its end suggests it, who being DR or DS.
+pub fn put_suggestion(who: u8, v: u8, out: &mut [u8]) -> usize
+    requires { ⌜ RoomFor (suggestion who v) (now out) ⌝ }
+    ensures { λ r. ⌜ Wrote (suggestion who v) (now (out .entry)) (now (out .exit)) r ⌝ }
+{
+    let body = [NAOCRD, who, v];
+    wire::put_frame(&body, out)
 }
 
 pub fn handling_of(v: Values) -> Handling

@@ -6,6 +6,8 @@ use lib.ListN.{length, getD, set, replicate}
 use lib.Dec.{ltb, eqb}
 use Rattle.lists.specs.Choice.{pick}
 use Rattle.lists.specs.Lists.{sum}
+use Rattle.codes.specs.Telnet.{IAC, BM, ACCEPT, REFUSE}
+use Rattle.wire.specs.Frames.{frame}
 use Rattle.macros.specs.declared.Verdict.{Verdict}
 use Rattle.macros.specs.declared.Verdict.the-variants.{Accepted, Refused}
 
@@ -59,9 +61,14 @@ judgedRest t x (count ∷ s) = judgedText t x count s
 
 -- the refusals of a DEFINE of X in their order; rest is what follows X
 unfoldable pub judged : Table → ℕ → List ℕ → Verdict
-judged t x rest = pick (eqb x 255) (Refused 1) (judgedRest t x rest)
+judged t x rest = pick (eqb x IAC) (Refused 1) (judgedRest t x rest)
 
 -- a refused DEFINE leaves X with its old text
 abbrev pub afterDefine : Verdict → Table → ℕ → List ℕ → Table
 afterDefine Accepted t x s = defined t x s
 afterDefine (Refused reason) t x s = t
+
+-- ACCEPT is 19, 2, X; REFUSE is 19, 3, X, reason
+abbrev pub verdictBytes : Verdict → ℕ → List ℕ
+verdictBytes Accepted x = frame (BM ∷ ACCEPT ∷ x ∷ [])
+verdictBytes (Refused reason) x = frame (BM ∷ REFUSE ∷ x ∷ reason ∷ [])

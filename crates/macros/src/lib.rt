@@ -4,7 +4,8 @@ ghost use mathlib.Core.List.{_++_};
 ghost use Prim.Native.Nat.{_+_, _-_, _≤_};
 ghost use lib.ListN.{length, take, drop, replicate};
 ghost use lib.Seq.{paste};
-ghost use Rattle.macros.specs.Texts.{noMacros, entryOf, judgedTotal, judged};
+ghost use Rattle.lists.specs.Buffers.{RoomFor, Wrote};
+ghost use Rattle.macros.specs.Texts.{noMacros, entryOf, judgedTotal, judged, verdictBytes};
 ghost use Rattle.macros.specs.Packed.{
   lengthOf,
   lengths,
@@ -18,7 +19,10 @@ ghost use Rattle.macros.specs.Packed.{
   CopyOf,
   Met,
 };
+use codes::ACCEPT;
+use codes::BM;
 use codes::IAC;
+use codes::REFUSE;
 
 // A mark for each byte.
 const BYTES: usize = 256;
@@ -241,4 +245,21 @@ pub fn define(t: Texts, x: u8, rest: &[u8]) -> Defined
         };
     }
     define_text(t, x, text)
+}
+
+// ACCEPT, or REFUSE with its reason.
+pub fn put_verdict(v: Verdict, x: u8, out: &mut [u8]) -> usize
+    requires { ⌜ RoomFor (verdictBytes v x) (now out) ⌝ }
+    ensures { λ r. ⌜ Wrote (verdictBytes v x) (now (out .entry)) (now (out .exit)) r ⌝ }
+{
+    match v {
+        Verdict::Accepted => {
+            let body = [BM, ACCEPT, x];
+            wire::put_frame(&body, out)
+        }
+        Verdict::Refused(reason) => {
+            let body = [BM, REFUSE, x, reason];
+            wire::put_frame(&body, out)
+        }
+    }
 }

@@ -1,6 +1,6 @@
 // The sides that each end carries, their states, and ECHO against RCTE.
 ghost use mathlib.Core.Path.{_≡_};
-ghost use Rattle.negotiation.specs.Carried.{printerSide, bulletinSide, isCarried, standing, moved, free, clashes};
+ghost use Rattle.negotiation.specs.Carried.{printerSide, bulletinSide, isCarried, standing, moved, allNo, free, clashes};
 use crate::Side;
 use crate::Sides;
 use crate::Standing;
@@ -84,6 +84,20 @@ fn sides_of(
         bm,
         printersga,
         naocrd,
+    }
+}
+
+// As an end begins: nothing is agreed.
+pub fn all_no() -> Sides
+    ensures { λ r. ⌜ r ≡ allNo ⌝ }
+{
+    Sides {
+        echo: Standing::No,
+        sga: Standing::No,
+        rcte: Standing::No,
+        bm: Standing::No,
+        printersga: Standing::No,
+        naocrd: Standing::No,
     }
 }
 

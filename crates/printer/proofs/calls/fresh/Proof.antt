@@ -8,25 +8,27 @@ use Rattle.echo.proofs.started.Reads as started-reads
 use Rattle.macros.proofs.empty.Reads as empty-reads
 use Rattle.reader.proofs.idle.Reads as idle-reads
 
--- src/calls.rt:37:9
+all-no-requires : tie.Need-all-no-requires
+all-no-requires c κs = search needs
+
 idle-requires : tie.Need-idle-requires
 idle-requires c κs = search needs
 
--- src/calls.rt:38:9
 empty-requires : tie.Need-empty-requires
 empty-requires c κs = search needs
 
--- src/calls.rt:39:9
 started-requires : tie.Need-started-requires
 started-requires c κs = search needs
 
--- src/calls.rt:26:1
+unspoken-requires : tie.Need-unspoken-requires
+unspoken-requires c κs = search needs
+
 returns : tie.Need-returns
 returns c =
     record {
-      view = rw (c .before .before .idle .ensures .view, c .before .empty .ensures .0, c .started .ensures .echo);
-      clean = record { reader = c .before .before .idle .ensures .clean; table = c .before .empty .ensures .1; echo = c .started .ensures .clean };
+      view = rw (c .before .before .before .before .all-no .ensures, c .before .before .before .idle .ensures .view, c .before .before .empty .ensures .0, c .before .started .ensures .echo, c .unspoken .ensures);
+      clean = record { reader = c .before .before .before .idle .ensures .clean; table = c .before .before .empty .ensures .1; echo = c .before .started .ensures .clean };
     }
 
 pub fresh-spec : {M : Type 1} → statement M
-fresh-spec = tie.close (tie.spec idle-requires empty-requires started-requires returns)
+fresh-spec = tie.close (tie.spec all-no-requires idle-requires empty-requires started-requires unspoken-requires returns)
