@@ -5,7 +5,7 @@ ghost use Prim.Native.Nat.{_+_, _-_, _≤_};
 ghost use lib.ListN.{length, take, drop, replicate};
 ghost use lib.Seq.{paste};
 ghost use Rattle.lists.specs.Buffers.{RoomFor, Wrote};
-ghost use Rattle.macros.specs.Texts.{noMacros, entryOf, judgedTotal, judged, verdictBytes};
+ghost use Rattle.macros.specs.Texts.{noMacros, entryOf, judgedTotal, judged, reasonNumber, verdictBytes};
 ghost use Rattle.macros.specs.Packed.{
   lengthOf,
   lengths,
@@ -35,10 +35,18 @@ const LONGEST_MARK: u16 = 256;
 // The room for all texts.
 const ROOM: usize = 1024;
 
-// A DEFINE is accepted, or refused with RFC 735's reason: 0 other, 1 bad choice, 2 too long, 3 wrong length.
+// RFC 735's reasons of a REFUSE.
+pub enum Reason {
+    Other,
+    BadChoice,
+    TooLong,
+    WrongLength,
+}
+
+// How a DEFINE is judged.
 pub enum Verdict {
     Accepted,
-    Refused(u8),
+    Refused(Reason),
 }
 
 // A mark for each byte: 0 where the byte stands for itself, else the length of its text and 1. The texts stand
@@ -207,7 +215,7 @@ fn define_text(t: Texts, x: u8, text: &[u8]) -> Defined
     let end = start + old;
     if total - old + len > ROOM {
         return Defined {
-            verdict: Verdict::Refused(2),
+            verdict: Verdict::Refused(Reason::TooLong),
             table: t,
         };
     }
@@ -226,13 +234,13 @@ pub fn define(t: Texts, x: u8, rest: &[u8]) -> Defined
 {
     if x == IAC {
         return Defined {
-            verdict: Verdict::Refused(1),
+            verdict: Verdict::Refused(Reason::BadChoice),
             table: t,
         };
     }
     if rest.len() == 0 {
         return Defined {
-            verdict: Verdict::Refused(0),
+            verdict: Verdict::Refused(Reason::Other),
             table: t,
         };
     }
@@ -240,11 +248,23 @@ pub fn define(t: Texts, x: u8, rest: &[u8]) -> Defined
     let count = rest[0] as usize;
     if text.len() != count {
         return Defined {
-            verdict: Verdict::Refused(3),
+            verdict: Verdict::Refused(Reason::WrongLength),
             table: t,
         };
     }
     define_text(t, x, text)
+}
+
+// The number that a reason is sent as.
+pub fn reason_number(r: Reason) -> u8
+    ensures { λ n. ⌜ n ≡ reasonNumber r ⌝ }
+{
+    match r {
+        Reason::Other => 0,
+        Reason::BadChoice => 1,
+        Reason::TooLong => 2,
+        Reason::WrongLength => 3,
+    }
 }
 
 // ACCEPT, or REFUSE with its reason.
@@ -258,7 +278,8 @@ pub fn put_verdict(v: Verdict, x: u8, out: &mut [u8]) -> usize
             wire::put_frame(&body, out)
         }
         Verdict::Refused(reason) => {
-            let body = [BM, REFUSE, x, reason];
+            let number = reason_number(reason);
+            let body = [BM, REFUSE, x, number];
             wire::put_frame(&body, out)
         }
     }
