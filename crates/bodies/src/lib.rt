@@ -7,19 +7,12 @@ ghost use Rattle.lists.specs.Choice.{pick};
 ghost use Rattle.bodies.specs.RcteBodies.{bit, actionOf, pairAt, classesAt, rcteLength, performed, rcteBody};
 ghost use Rattle.bodies.specs.MacroBodies.{macroBody, replyBody};
 ghost use Rattle.bodies.specs.ValueBodies.{isBadValue, valueBody};
-
-// The subcommands of BM.
-const DEFINE: u8 = 1;
-
-const ACCEPT: u8 = 2;
-
-const REFUSE: u8 = 3;
-
-const LITERAL: u8 = 4;
-
-const PLEASE_CANCEL: u8 = 5;
-
-const IAC: u8 = 255;
+use codes::ACCEPT;
+use codes::DEFINE;
+use codes::IAC;
+use codes::LITERAL;
+use codes::PLEASE_CANCEL;
+use codes::REFUSE;
 
 // The bits of an RCTE command, each by its weight.
 const SKIPS_BREAK: u8 = 2;

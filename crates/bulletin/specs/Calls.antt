@@ -5,7 +5,7 @@ use Prim.Native.Nat.{ℕ, _/_, _%_}
 use lib.Dec.{ltb, leb, eqb}
 use Rattle.lists.specs.Choice.{pick}
 use Rattle.codes.specs.Answers.{noRoom, wireRoom, Guard, when, guarded}
-use Rattle.codes.specs.Telnet.{RCTE, NAOCRD, DS, IAC, plainCommand}
+use Rattle.codes.specs.Telnet.{RCTE, DS, IAC, plainCommand}
 use Rattle.codes.specs.declared.Code.{Code}
 use Rattle.codes.specs.declared.Code.the-variants.{NoRoom, BadCommand, AlreadySo, NotInForce, BadMacroByte, TooLong, Unanswered, NoText, BadValue, OutputWaits}
 use Rattle.codes.specs.declared.Whose.{Whose}
@@ -18,7 +18,7 @@ use Rattle.bodies.specs.RcteBodies.{setsBreaks, setsSends}
 use Rattle.bodies.specs.ValueBodies.{isBadValue}
 use Rattle.definitions.specs.Sending.{Definitions, sentOf, isPending, isAccepted, isTooLong, defining, defineBytes, allDataBytes, acceptedText}
 use Rattle.disposition.specs.declared.Handling.{Handling}
-use Rattle.disposition.specs.Returns.{withDs, itemData, awaits, isReturn}
+use Rattle.disposition.specs.Returns.{withDs, suggestion, itemData, awaits, isReturn}
 use Rattle.bulletin.specs.State.{Bulletin, withTable, withValues, withAwaiting, rcteOn, macrosOn, returnsOn, handlingNow, definitionsNow, Did, sends, nothing, Answer, done, refused}
 use Rattle.bulletin.specs.Network.{networkRead, sideMoved}
 
@@ -41,7 +41,7 @@ unfoldable pub suggestCall : Bulletin → ℕ → ℕ → Answer
 suggestCall s v wire =
     guarded (when (noWire wire) NoRoom ∷ when (not (returnsOn s)) NotInForce ∷ when (isBadValue v) BadValue ∷ when (eqb v (s .values .ds)) AlreadySo ∷ [])
     (refused s)
-    (done (sends (frame (NAOCRD ∷ DS ∷ v ∷ [])) (withValues s (withDs (s .values) v))))
+    (done (sends (suggestion DS v) (withValues s (withDs (s .values) v))))
 
 -- an order's cmd is 0, or odd and at most 31
 abbrev pub badOrder : ℕ → Bool

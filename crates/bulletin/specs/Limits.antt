@@ -1,15 +1,15 @@
 -- The claims that one call fits its lent buffers, from every state.
 use mathlib.Core.Bool.{false}
 use mathlib.Core.Path.{_≡_}
-use mathlib.Core.List.{List, [], _∷_}
+use mathlib.Core.List.{List}
 use Prim.Native.Nat.{ℕ, _≤_}
 use lib.ListN.{length}
 use Rattle.codes.specs.Answers.{paperRoom, wireRoom}
-use Rattle.codes.specs.Telnet.{NAOCRD, DS}
+use Rattle.codes.specs.Telnet.{DS}
 use Rattle.keys.specs.declared.Key.{Key}
-use Rattle.wire.specs.Frames.{frame}
 use Rattle.negotiation.specs.declared.Standing.{Standing}
 use Rattle.negotiation.specs.declared.Side.{Side}
+use Rattle.disposition.specs.Returns.{suggestion}
 use Rattle.definitions.specs.Sending.{Definitions, isTooLong, defineBytes}
 use Rattle.bulletin.specs.State.{Bulletin, Did}
 use Rattle.bulletin.specs.Network.{sideMoved, networkRead}
@@ -32,7 +32,7 @@ abbrev pub MoveFits : Type 0
 MoveFits = (s : Bulletin) (side : Side) (q : Standing) (reply : List ℕ) → length reply ≤ 3 → Fits (sideMoved s side q reply)
 
 abbrev pub SuggestionFits : Type 0
-SuggestionFits = (v : ℕ) → FitsWire (frame (NAOCRD ∷ DS ∷ v ∷ []))
+SuggestionFits = (v : ℕ) → FitsWire (suggestion DS v)
 
 abbrev pub OrderFits : Type 0
 OrderFits = (cmd breaks sends : ℕ) → FitsWire (orderBytes cmd breaks sends)

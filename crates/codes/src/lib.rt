@@ -1,7 +1,58 @@
-// What a call answers: a code and a note. Which end and which side of an option is meant.
+// What a call answers: a code and a note. Which side of an option is meant. Telnet's and the options' numbers.
 ghost use mathlib.Core.Path.{_≡_};
-ghost use Rattle.codes.specs.Answers.{codeNumber, noteNumber, firstNote};
+ghost use Rattle.codes.specs.Answers.{codeNumber, noteNumber, firstNote, noRoom};
 ghost use Rattle.codes.specs.Telnet.{verbNumber, whoseOf, enables, plainCommand, otherSide};
+
+// The commands of RFC 854 that are told apart; NOP to GA may be keys.
+pub const SE: u8 = 240;
+
+pub const NOP: u8 = 241;
+
+pub const GA: u8 = 249;
+
+pub const SB: u8 = 250;
+
+pub const WILL: u8 = 251;
+
+pub const WONT: u8 = 252;
+
+pub const DO: u8 = 253;
+
+pub const DONT: u8 = 254;
+
+pub const IAC: u8 = 255;
+
+// The options that are carried.
+pub const ECHO: u8 = 1;
+
+pub const SGA: u8 = 3;
+
+pub const RCTE: u8 = 7;
+
+pub const NAOCRD: u8 = 10;
+
+pub const BM: u8 = 19;
+
+// The subcommands of BM.
+pub const DEFINE: u8 = 1;
+
+pub const ACCEPT: u8 = 2;
+
+pub const REFUSE: u8 = 3;
+
+pub const LITERAL: u8 = 4;
+
+pub const PLEASE_CANCEL: u8 = 5;
+
+// The two ways of a NAOCRD body: from the printer end, and from the bulletin end.
+pub const DR: u8 = 0;
+
+pub const DS: u8 = 1;
+
+// The sizes that code 1 asks of the lent buffers.
+pub const PAPER_ROOM: usize = 1024;
+
+pub const WIRE_ROOM: usize = 2048;
 
 // Every code but Done is a refusal: the state and the lent bytes do not change.
 pub enum Code {
@@ -91,15 +142,25 @@ pub fn first_note(a: Note, b: Note) -> Note
     }
 }
 
+// Code 1: a lent buffer that is too small.
+pub fn no_room(paper: usize, wire: usize) -> bool
+    ensures { λ r. ⌜ r ≡ noRoom paper wire ⌝ }
+{
+    if paper < PAPER_ROOM {
+        return true;
+    }
+    wire < WIRE_ROOM
+}
+
 // The byte behind IAC.
 pub fn verb_number(v: Verb) -> u8
     ensures { λ r. ⌜ r ≡ verbNumber v ⌝ }
 {
     match v {
-        Verb::Will => 251,
-        Verb::Wont => 252,
-        Verb::Do => 253,
-        Verb::Dont => 254,
+        Verb::Will => WILL,
+        Verb::Wont => WONT,
+        Verb::Do => DO,
+        Verb::Dont => DONT,
     }
 }
 
@@ -141,5 +202,5 @@ pub fn other_side(w: Whose) -> Whose
 pub fn plain_command(c: u8) -> bool
     ensures { λ r. ⌜ r ≡ plainCommand c ⌝ }
 {
-    c >= 241 && c <= 249
+    c >= NOP && c <= GA
 }

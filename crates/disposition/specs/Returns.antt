@@ -5,8 +5,10 @@ use Prim.Native.Nat.{ℕ}
 use lib.ListN.{replicate}
 use lib.Dec.{eqb}
 use Rattle.lists.specs.Choice.{pick, between}
+use Rattle.codes.specs.Telnet.{NAOCRD}
 use Rattle.keys.specs.declared.Key.{Key}
 use Rattle.keys.specs.declared.Key.the-variants.{Char, Line, Command}
+use Rattle.wire.specs.Frames.{frame}
 use Rattle.disposition.specs.declared.Values.{Values}
 use Rattle.disposition.specs.declared.Handling.{Handling}
 use Rattle.disposition.specs.declared.Handling.the-variants.{Sender, Receiver}
@@ -20,6 +22,10 @@ withDs v n = record { ds = n; dr = v .dr }
 
 abbrev pub withDr : Values → ℕ → Values
 withDr v n = record { ds = v .ds; dr = n }
+
+-- a value on the wire; who is DR or DS, the end that suggests it
+abbrev pub suggestion : ℕ → ℕ → List ℕ
+suggestion who v = frame (NAOCRD ∷ who ∷ v ∷ [])
 
 -- with DS 0 the sender handles, as DR says; otherwise the receiver does, as DS says
 unfoldable pub handling : Values → Handling

@@ -3,8 +3,24 @@ ghost use mathlib.Core.Path.{_≡_};
 ghost use mathlib.Core.List.{[], _∷_};
 ghost use lib.ListN.{replicate};
 ghost use Rattle.lists.specs.Buffers.{RoomFor, Wrote};
-ghost use Rattle.disposition.specs.Returns.{handling, awaits, isReturn, padded, lineBytes, returnBytes};
+ghost use Rattle.disposition.specs.Returns.{unspoken, withDs, withDr, suggestion, handling, awaits, isReturn, padded, lineBytes, returnBytes};
+use codes::NAOCRD;
+use keys::CR;
 use keys::Key;
+use keys::LF;
+use keys::NUL;
+
+// DS and DR as they count until they are suggested.
+pub const UNSPOKEN_DS: u8 = 255;
+
+const UNSPOKEN_DR: u8 = 0;
+
+// What a value asks of the end that handles: up to that many NULs behind a carriage return; to leave it out; to wait.
+const MOST_NULS: u8 = 250;
+
+const LEFT_OUT: u8 = 252;
+
+const WAITS: u8 = 254;
 
 // DS, the bulletin end's value, and DR, the printer end's.
 pub struct Values {
@@ -16,6 +32,36 @@ pub struct Values {
 pub enum Handling {
     Sender(u8),
     Receiver(u8),
+}
+
+pub fn unspoken() -> Values
+    ensures { λ r. ⌜ r ≡ unspoken ⌝ }
+{
+    Values {
+        ds: UNSPOKEN_DS,
+        dr: UNSPOKEN_DR,
+    }
+}
+
+pub fn with_ds(v: Values, ds: u8) -> Values
+    ensures { λ r. ⌜ r ≡ withDs v ds ⌝ }
+{
+    Values { ds, dr: v.dr }
+}
+
+pub fn with_dr(v: Values, dr: u8) -> Values
+    ensures { λ r. ⌜ r ≡ withDr v dr ⌝ }
+{
+    Values { ds: v.ds, dr }
+}
+
+// A value as its end suggests it, who being DR or DS.
+pub fn put_suggestion(who: u8, v: u8, out: &mut [u8]) -> usize
+    requires { ⌜ RoomFor (suggestion who v) (now out) ⌝ }
+    ensures { λ r. ⌜ Wrote (suggestion who v) (now (out .entry)) (now (out .exit)) r ⌝ }
+{
+    let body = [NAOCRD, who, v];
+    wire::put_frame(&body, out)
 }
 
 pub fn handling_of(v: Values) -> Handling
@@ -34,7 +80,7 @@ pub fn awaits(h: Handling) -> bool
     ensures { λ r. ⌜ r ≡ awaits h ⌝ }
 {
     match h {
-        Handling::Sender(n) => n == 254,
+        Handling::Sender(n) => n == WAITS,
         Handling::Receiver(_) => false,
     }
 }
@@ -43,7 +89,7 @@ pub fn is_return(k: Key) -> bool
     ensures { λ r. ⌜ r ≡ isReturn k ⌝ }
 {
     match k {
-        Key::Char(b) => b == 13,
+        Key::Char(b) => b == CR,
         Key::Line => true,
         Key::Command(_) => false,
     }
@@ -57,7 +103,7 @@ fn put_nuls(n: u8, out: &mut [u8]) -> usize
     let count = n as usize;
     let mut i: usize = 0;
     while i < count {
-        out[i] = 0;
+        out[i] = NUL;
         i += 1;
     }
     count
@@ -68,10 +114,10 @@ fn put_padded(second: u8, n: u8, out: &mut [u8]) -> usize
     requires { ⌜ RoomFor (padded n (13 ∷ second ∷ [])) (now out) ⌝ }
     ensures { λ r. ⌜ Wrote (padded n (13 ∷ second ∷ [])) (now (out .entry)) (now (out .exit)) r ⌝ }
 {
-    out[0] = 13;
+    out[0] = CR;
     out[1] = second;
     match n {
-        1..=250 => 2 + put_nuls(n, &mut out[2..]),
+        1..=MOST_NULS => 2 + put_nuls(n, &mut out[2..]),
         _ => 2,
     }
 }
@@ -83,14 +129,14 @@ pub fn put_line(h: Handling, out: &mut [u8]) -> usize
 {
     match h {
         Handling::Sender(n) => {
-            if n == 252 {
-                out[0] = 10;
+            if n == LEFT_OUT {
+                out[0] = LF;
                 1
             } else {
-                put_padded(10, n, out)
+                put_padded(LF, n, out)
             }
         }
-        Handling::Receiver(_) => put_padded(10, 0, out),
+        Handling::Receiver(_) => put_padded(LF, 0, out),
     }
 }
 
@@ -100,7 +146,13 @@ pub fn put_return(h: Handling, out: &mut [u8]) -> usize
     ensures { λ r. ⌜ Wrote (returnBytes h) (now (out .entry)) (now (out .exit)) r ⌝ }
 {
     match h {
-        Handling::Sender(n) => { if n == 252 { 0 } else { put_padded(0, n, out) } }
-        Handling::Receiver(_) => put_padded(0, 0, out),
+        Handling::Sender(n) => {
+            if n == LEFT_OUT {
+                0
+            } else {
+                put_padded(NUL, n, out)
+            }
+        }
+        Handling::Receiver(_) => put_padded(NUL, 0, out),
     }
 }

@@ -16,15 +16,21 @@ mod waiting;
 pub use taking::send_key;
 pub use waiting::is_full;
 
+// So many keys may wait.
+pub const WAIT_ROOM: usize = 256;
+
+// .. and so many bytes be gathered.
+pub const GATHER_ROOM: usize = 512;
+
 // A key that waits is kept as a number. Cells past a count are 0.
 pub struct Echo {
     pub held: bool,
     pub action: Action,
     pub breaks: u16,
     pub sends: u16,
-    pub waiting: [u16; 256],
+    pub waiting: [u16; WAIT_ROOM],
     pub count: usize,
-    pub gathered: [u8; 512],
+    pub gathered: [u8; GATHER_ROOM],
     pub filled: usize,
 }
 
@@ -49,7 +55,7 @@ struct Orders {
 }
 
 struct Gathered {
-    cells: [u8; 512],
+    cells: [u8; GATHER_ROOM],
     filled: usize,
 }
 

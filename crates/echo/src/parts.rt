@@ -4,8 +4,10 @@ ghost use Prim.Native.Nat.{min};
 ghost use lib.ListN.{replicate};
 ghost use Rattle.echo.specs.Steps.{orderCells, gatheredCells};
 use crate::Echo;
+use crate::GATHER_ROOM;
 use crate::Gathered;
 use crate::Orders;
+use crate::WAIT_ROOM;
 
 pub fn capped(count: usize, most: usize) -> usize
     ensures { λ r. ⌜ r ≡ min count most ⌝ }
@@ -13,16 +15,16 @@ pub fn capped(count: usize, most: usize) -> usize
     if count < most { count } else { most }
 }
 
-pub fn no_keys() -> [u16; 256]
+pub fn no_keys() -> [u16; WAIT_ROOM]
     ensures { λ r. ⌜ r ≡ replicate 256 0 ⌝ }
 {
-    [0u16; 256]
+    [0u16; WAIT_ROOM]
 }
 
-pub fn no_bytes() -> [u8; 512]
+pub fn no_bytes() -> [u8; GATHER_ROOM]
     ensures { λ r. ⌜ r ≡ replicate 512 0 ⌝ }
 {
-    [0u8; 512]
+    [0u8; GATHER_ROOM]
 }
 
 pub fn orders_of(e: Echo) -> Orders

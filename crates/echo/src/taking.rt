@@ -8,6 +8,7 @@ ghost use Rattle.keys.specs.Keys.{keyWire};
 ghost use Rattle.echo.specs.Taking.{takenUp, sentPaper, sentFirst};
 ghost use Rattle.echo.specs.View.{WroteBoth};
 ghost use Rattle.echo.specs.Steps.{viewOrders, bytesIn, printed, staysFirst, Gathers, MetSent, MetTaken};
+use crate::GATHER_ROOM;
 use crate::Gathered;
 use crate::Orders;
 use crate::Sent;
@@ -15,6 +16,8 @@ use crate::Taken;
 use crate::Written;
 use crate::commands;
 use crate::parts;
+use codes::IAC;
+use keys::CR;
 use keys::Key;
 
 // How many bytes a key is on the wire.
@@ -23,7 +26,7 @@ fn wire_length(k: Key) -> usize
 {
     match k {
         Key::Char(b) => match b {
-            13 | 255 => 2,
+            CR | IAC => 2,
             _ => 1,
         },
         Key::Line => 2,
@@ -47,7 +50,7 @@ pub fn flush(g: Gathered, wire: &mut [u8]) -> Sent
     requires { ⌜ RoomFor (bytesIn g) (now wire) ⌝ }
     ensures { λ r. ⌜ MetSent (bytesIn g) [] g (now (wire .entry)) (now (wire .exit)) r ⌝ }
 {
-    let n = parts::capped(g.filled, 512);
+    let n = parts::capped(g.filled, GATHER_ROOM);
     let cells = g.cells;
     let count = wire::put_bytes(&cells[..n], wire);
     let none = parts::no_bytes();
@@ -65,9 +68,9 @@ fn make_room(g: Gathered, k: Key, wire: &mut [u8]) -> Sent
     requires { ⌜ RoomFor (sentFirst (bytesIn g) k) (now wire) ⌝ }
     ensures { λ r. ⌜ MetSent (sentFirst (bytesIn g) k) (staysFirst (bytesIn g) k) g (now (wire .entry)) (now (wire .exit)) r ⌝ }
 {
-    let n = parts::capped(g.filled, 512);
+    let n = parts::capped(g.filled, GATHER_ROOM);
     let w = wire_length(k);
-    if 512 < n + w {
+    if GATHER_ROOM < n + w {
         return flush(g, wire);
     }
     Sent {
@@ -81,7 +84,7 @@ fn with_key(g: Gathered, k: Key) -> Gathered
     requires { ⌜ length (bytesIn g) + length (keyWire k) ≤ 512 ⌝ }
     ensures { λ r. ⌜ Gathers (bytesIn g ++ keyWire k) g r ⌝ }
 {
-    let n = parts::capped(g.filled, 512);
+    let n = parts::capped(g.filled, GATHER_ROOM);
     let mut cells = g.cells;
     let w = wire::put_key(k, &mut cells[n..]);
     Gathered {

@@ -14,6 +14,7 @@ use crate::Echo;
 use crate::Echoed;
 use crate::Gathered;
 use crate::Stop;
+use crate::WAIT_ROOM;
 use crate::Written;
 use crate::parts;
 use crate::taking;
@@ -23,7 +24,7 @@ use keys::Key;
 pub fn is_full(e: Echo) -> bool
     ensures { λ r. ⌜ r ≡ control.isFull (viewEcho e) ⌝ }
 {
-    if e.held { 256 <= e.count } else { false }
+    if e.held { WAIT_ROOM <= e.count } else { false }
 }
 
 // A key put behind those that wait.
@@ -31,7 +32,7 @@ pub fn queued(e: Echo, k: Key) -> Echo
     requires { ⌜ length (waitingIn e) < 256 ⌝ }
     ensures { λ r. ⌜ Kept (control.queued (viewEcho e) k) e r ⌝ }
 {
-    let count = parts::capped(e.count, 256);
+    let count = parts::capped(e.count, WAIT_ROOM);
     let mut waiting = e.waiting;
     let packed = keys::pack(k);
     waiting[count] = packed;
@@ -42,7 +43,7 @@ pub fn queued(e: Echo, k: Key) -> Echo
 }
 
 // The keys that still wait behind the first ones, in an empty queue.
-fn keys_from(cells: [u16; 256], taken: usize, count: usize) -> [u16; 256]
+fn keys_from(cells: [u16; WAIT_ROOM], taken: usize, count: usize) -> [u16; WAIT_ROOM]
     requires { ⌜ taken + count ≤ 256 ⌝ }
     ensures { λ r. ⌜ r ≡ take count (drop taken cells) ++ replicate (256 - count) 0 ⌝ }
 {
@@ -60,7 +61,7 @@ pub fn left(e: Echo, g: Gathered, at: usize, held: bool) -> Echo
     requires { ⌜ at ≤ min (e .count) 256 ⌝ }
     ensures { λ r. ⌜ Left (leftAt (viewEcho e) (bytesIn g) at held) g e r ⌝ }
 {
-    let count = parts::capped(e.count, 256) - at;
+    let count = parts::capped(e.count, WAIT_ROOM) - at;
     let cells = e.waiting;
     let waiting = keys_from(cells, at, count);
     let gathered = g.cells;
@@ -83,7 +84,7 @@ pub fn release(e: Echo, paper: &mut [u8], wire: &mut [u8]) -> Echoed
     requires { ⌜ RoomFor (releasing (viewEcho e) .wire) (now wire) ⌝ }
     ensures { λ r. ⌜ MetEchoed (releasing (viewEcho e)) e (now (paper .entry)) (now (paper .exit)) (now (wire .entry)) (now (wire .exit)) r ⌝ }
 {
-    let count = parts::capped(e.count, 256);
+    let count = parts::capped(e.count, WAIT_ROOM);
     let cells = e.waiting;
     let o = parts::orders_of(e);
     let mut g = parts::gathered_of(e);
@@ -122,7 +123,7 @@ pub fn send_waiting(e: Echo, echoed: bool, paper: &mut [u8], wire: &mut [u8]) ->
     requires { ⌜ RoomFor (joined keyWire (waitingIn e)) (now wire) ⌝ }
     ensures { λ r. ⌜ WroteBoth (joined (λ k. sentPaper echoed k) (waitingIn e)) (joined keyWire (waitingIn e)) (now (paper .entry)) (now (paper .exit)) (now (wire .entry)) (now (wire .exit)) r ⌝ }
 {
-    let count = parts::capped(e.count, 256);
+    let count = parts::capped(e.count, WAIT_ROOM);
     let cells = e.waiting;
     let mut i: usize = 0;
     let mut p: usize = 0;

@@ -5,6 +5,13 @@ ghost use Rattle.lists.specs.Buffers.{RoomFor, Wrote};
 ghost use Rattle.keys.specs.Keys.{classOf, keyClass, inClasses, isCommand, prints, keyPaper};
 ghost use Rattle.keys.specs.Packing.{packed, unpacked};
 
+// What Line and Char(13) are on the wire: CR LF and CR NUL.
+pub const CR: u8 = 13;
+
+pub const LF: u8 = 10;
+
+pub const NUL: u8 = 0;
+
 // Char and Line are typed characters; a Command is one of Telnet's codes 241 to 249.
 pub enum Key {
     Char(u8),
@@ -26,7 +33,7 @@ pub fn class_of(b: u8) -> u8
         00000000000000000000000000000000\
         00000000000000000000000000000000";
     let at = b as usize;
-    classes[at] - 48
+    classes[at] - b'0'
 }
 
 pub fn key_class(k: Key) -> u8
@@ -103,13 +110,18 @@ pub fn put_paper(k: Key, out: &mut [u8]) -> usize
             0
         }
         Key::Line => {
-            out[0] = 13;
-            out[1] = 10;
+            out[0] = CR;
+            out[1] = LF;
             2
         }
         Key::Command(_) => 0,
     }
 }
+
+// The first numbers of a Line and of a Command in a queue; below them stand the bytes of a Char.
+const LINE: u16 = 256;
+
+const COMMAND: u16 = 512;
 
 // A key as one number, for a queue.
 pub fn pack(k: Key) -> u16
@@ -117,18 +129,18 @@ pub fn pack(k: Key) -> u16
 {
     match k {
         Key::Char(b) => b as u16,
-        Key::Line => 256,
-        Key::Command(c) => 512 + c as u16,
+        Key::Line => LINE,
+        Key::Command(c) => COMMAND + c as u16,
     }
 }
 
 pub fn unpack(n: u16) -> Key
     ensures { λ r. ⌜ r ≡ unpacked n ⌝ }
 {
-    if n < 256 {
+    if n < LINE {
         return Key::Char(n as u8);
     }
-    if n < 512 {
+    if n < COMMAND {
         return Key::Line;
     }
     Key::Command((n % 256) as u8)

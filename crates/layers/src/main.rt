@@ -24,7 +24,7 @@ fn say_verdict(v: Verdict) {
         Verdict::Accepted => say(b"accepted\n"),
         Verdict::Refused(reason) => {
             say(b"refused, reason ");
-            say_number(reason as usize);
+            say_number(macros::reason_number(reason) as usize);
             say(b"\n");
         }
     }

@@ -9,6 +9,7 @@ use lib.Seq.{set-split}
 use Rattle.lists.proofs.Sums.{sum-around, sum-set}
 use Rattle.lists.proofs.Zeros.{clean-append}
 use Rattle.lists.proofs.Lengths.{every-set}
+use Rattle.macros.specs.declared.Reason.the-variants.{TooLong}
 use Rattle.macros.specs.declared.Verdict.the-variants.{Accepted, Refused}
 use Rattle.macros.specs.declared.Texts.{Texts}
 use Rattle.macros.specs.Texts.{plain, entryLength, entryOf, entryFor, total, textRoom, defined, judgedTotal}
@@ -47,7 +48,7 @@ module _ (t r : Texts) (x : ℕ) (s : List ℕ) (settled : Settled t r) (cells-l
       rw (settled .table) (omega (arith, change, before, here, marked x s short .long, fits))
 
   pub too-long : textRoom < lengths (r .marks) - old + lengthOf mark
-      → Met (judgedTotal (viewTexts t) x s) t x s (record { verdict = Refused 2; table = t })
+      → Met (judgedTotal (viewTexts t) x s) t x s (record { verdict = Refused TooLong; table = t })
   too-long over =
       rw (lt-ltb textRoom (total (defined (viewTexts t) x s)) (omega (arith, new-total)))
       (record { verdict = refl; table = refl; clean = λ c. c; kept = refl })
@@ -128,7 +129,7 @@ module _ (t r : Texts) (x : ℕ) (s : List ℕ) (old mark len last start : ℕ) 
         part = omega (arith, z .len-is);
       }
 
-  pub refused-text : textRoom < last - old + len → Met (judgedTotal (viewTexts t) x s) t x s (record { verdict = Refused 2; table = t })
+  pub refused-text : textRoom < last - old + len → Met (judgedTotal (viewTexts t) x s) t x s (record { verdict = Refused TooLong; table = t })
   refused-text over = too-long t r x s (z .settled) (z .cells-long) (z .byte) (z .short) (rw (z .len-is, z .mark-is, z .old-is, z .last-is) at over)
 
   pub accepted-text : (cells : List ℕ) → cells ≡ packed (r .cells) start (start + old) last (take len s) → last - old + len ≤ textRoom

@@ -6,23 +6,25 @@ use native.Mathlib.Omega.{arith}
 use borrow.Author.Tests.{eq-eqb, ne-eqb}
 use lib.ListN.{length, getD, take, drop, length-drop}
 use lib.Seq.{take-all}
+use Rattle.macros.specs.declared.Reason.{Reason}
+use Rattle.macros.specs.declared.Reason.the-variants.{Other, BadChoice, WrongLength}
 use Rattle.macros.specs.declared.Verdict.{Verdict}
 use Rattle.macros.specs.declared.Verdict.the-variants.{Refused}
 use Rattle.macros.specs.declared.Texts.{Texts}
 use Rattle.macros.specs.Texts.{Table, judgedTotal, judged}
 use Rattle.macros.specs.Packed.{Met}
 
-pub judged-choice : (table : Table) (x : ℕ) (rest : List ℕ) → x ≡ 255 → judged table x rest ≡ Refused 1
+pub judged-choice : (table : Table) (x : ℕ) (rest : List ℕ) → x ≡ 255 → judged table x rest ≡ Refused BadChoice
 unfolding judged
 judged-choice table x rest e = rw (eq-eqb x 255 e)
 
-pub judged-bare : (table : Table) (x : ℕ) (rest : List ℕ) → (x ≡ 255 → ⊥) → length rest ≡ 0 → judged table x rest ≡ Refused 0
+pub judged-bare : (table : Table) (x : ℕ) (rest : List ℕ) → (x ≡ 255 → ⊥) → length rest ≡ 0 → judged table x rest ≡ Refused Other
 unfolding judged
 judged-bare table x [] n e = rw (ne-eqb x 255 n)
 judged-bare table x (count ∷ s) n e = absurd (omega arith)
 
 pub judged-length : (table : Table) (x : ℕ) (rest : List ℕ) → (x ≡ 255 → ⊥) → (length rest ≡ 0 → ⊥) → (length (drop 1 rest) ≡ getD rest 0 0 → ⊥)
-    → judged table x rest ≡ Refused 3
+    → judged table x rest ≡ Refused WrongLength
 unfolding judged
 judged-length table x [] n h e = absurd (h refl)
 judged-length table x (count ∷ s) n h e = rw (ne-eqb x 255 n, ne-eqb (length s) count e)
@@ -34,7 +36,7 @@ judged-size table x [] n h e = absurd (h refl)
 judged-size table x (count ∷ s) n h e = rw (ne-eqb x 255 n, eq-eqb (length s) count e)
 
 -- a refusal leaves the table as it was
-pub refused : (t : Texts) (x : ℕ) (s : List ℕ) (v : Verdict) (reason : ℕ) → v ≡ Refused reason → Met v t x s (record { verdict = Refused reason; table = t })
+pub refused : (t : Texts) (x : ℕ) (s : List ℕ) (v : Verdict) (reason : Reason) → v ≡ Refused reason → Met v t x s (record { verdict = Refused reason; table = t })
 refused t x s v reason e = rw e (record { verdict = refl; table = refl; clean = λ c. c; kept = refl })
 
 -- what is lent behind the count is the string

@@ -6,6 +6,10 @@ use lib.ListN.{length, getD, set, replicate}
 use lib.Dec.{ltb, eqb}
 use Rattle.lists.specs.Choice.{pick}
 use Rattle.lists.specs.Lists.{sum}
+use Rattle.codes.specs.Telnet.{IAC, BM, ACCEPT, REFUSE}
+use Rattle.wire.specs.Frames.{frame}
+use Rattle.macros.specs.declared.Reason.{Reason}
+use Rattle.macros.specs.declared.Reason.the-variants.{Other, BadChoice, TooLong, WrongLength}
 use Rattle.macros.specs.declared.Verdict.{Verdict}
 use Rattle.macros.specs.declared.Verdict.the-variants.{Accepted, Refused}
 
@@ -47,21 +51,32 @@ defined t x s = set t x (entryFor x s)
 
 -- with a string of the right length
 abbrev pub judgedTotal : Table → ℕ → List ℕ → Verdict
-judgedTotal t x s = pick (ltb textRoom (total (defined t x s))) (Refused 2) Accepted
+judgedTotal t x s = pick (ltb textRoom (total (defined t x s))) (Refused TooLong) Accepted
 
 -- with a count and a string behind X
 abbrev pub judgedText : Table → ℕ → ℕ → List ℕ → Verdict
-judgedText t x count s = pick (not (eqb (length s) count)) (Refused 3) (judgedTotal t x s)
+judgedText t x count s = pick (not (eqb (length s) count)) (Refused WrongLength) (judgedTotal t x s)
 
 abbrev pub judgedRest : Table → ℕ → List ℕ → Verdict
-judgedRest t x [] = Refused 0
+judgedRest t x [] = Refused Other
 judgedRest t x (count ∷ s) = judgedText t x count s
 
 -- the refusals of a DEFINE of X in their order; rest is what follows X
 unfoldable pub judged : Table → ℕ → List ℕ → Verdict
-judged t x rest = pick (eqb x 255) (Refused 1) (judgedRest t x rest)
+judged t x rest = pick (eqb x IAC) (Refused BadChoice) (judgedRest t x rest)
 
 -- a refused DEFINE leaves X with its old text
 abbrev pub afterDefine : Verdict → Table → ℕ → List ℕ → Table
 afterDefine Accepted t x s = defined t x s
 afterDefine (Refused reason) t x s = t
+
+abbrev pub reasonNumber : Reason → ℕ
+reasonNumber Other = 0
+reasonNumber BadChoice = 1
+reasonNumber TooLong = 2
+reasonNumber WrongLength = 3
+
+-- ACCEPT is 19, 2, X; REFUSE is 19, 3, X, reason
+abbrev pub verdictBytes : Verdict → ℕ → List ℕ
+verdictBytes Accepted x = frame (BM ∷ ACCEPT ∷ x ∷ [])
+verdictBytes (Refused reason) x = frame (BM ∷ REFUSE ∷ x ∷ reasonNumber reason ∷ [])

@@ -4,7 +4,8 @@ ghost use mathlib.Core.List.{_++_};
 ghost use Prim.Native.Nat.{_+_, _-_, _≤_};
 ghost use lib.ListN.{length, take, drop, replicate};
 ghost use lib.Seq.{paste};
-ghost use Rattle.macros.specs.Texts.{noMacros, entryOf, judgedTotal, judged};
+ghost use Rattle.lists.specs.Buffers.{RoomFor, Wrote};
+ghost use Rattle.macros.specs.Texts.{noMacros, entryOf, judgedTotal, judged, reasonNumber, verdictBytes};
 ghost use Rattle.macros.specs.Packed.{
   lengthOf,
   lengths,
@@ -18,27 +19,47 @@ ghost use Rattle.macros.specs.Packed.{
   CopyOf,
   Met,
 };
+use codes::ACCEPT;
+use codes::BM;
+use codes::IAC;
+use codes::REFUSE;
+
+// A mark for each byte.
+const BYTES: usize = 256;
+
+// The longest text, as a DEFINE's count is one byte, and its mark.
+const LONGEST: usize = 255;
+
+const LONGEST_MARK: u16 = 256;
 
 // The room for all texts.
 const ROOM: usize = 1024;
 
-// A DEFINE is accepted, or refused with RFC 735's reason: 0 other, 1 bad choice, 2 too long, 3 wrong length.
+// RFC 735's reasons of a REFUSE.
+pub enum Reason {
+    Other,
+    BadChoice,
+    TooLong,
+    WrongLength,
+}
+
+// How a DEFINE is judged.
 pub enum Verdict {
     Accepted,
-    Refused(u8),
+    Refused(Reason),
 }
 
 // A mark for each byte: 0 where the byte stands for itself, else the length of its text and 1. The texts stand
 // in cells one behind the other, in the order of their bytes. Marks whose lengths pass 1,024 count as no macros.
 pub struct Texts {
-    pub marks: [u16; 256],
+    pub marks: [u16; BYTES],
     pub cells: [u8; ROOM],
 }
 
 // A copy of a byte's text; the bytes past len are 0.
 pub struct Text {
     pub len: usize,
-    pub bytes: [u8; 255],
+    pub bytes: [u8; LONGEST],
 }
 
 pub struct Defined {
@@ -50,7 +71,7 @@ pub fn empty() -> Texts
     ensures { λ r. ⌜ (viewTexts r ≡ noMacros) × CleanTexts r ⌝ }
 {
     Texts {
-        marks: [0u16; 256],
+        marks: [0u16; BYTES],
         cells: [0u8; ROOM],
     }
 }
@@ -62,14 +83,14 @@ fn length_of(mark: u16) -> usize
     if mark == 0 {
         return 0;
     }
-    if mark > 256 {
-        return 255;
+    if mark > LONGEST_MARK {
+        return LONGEST;
     }
     mark as usize - 1
 }
 
 // Where the text of byte x begins; of 256, where the texts end.
-fn start_of(marks: [u16; 256], x: usize) -> usize
+fn start_of(marks: [u16; BYTES], x: usize) -> usize
     requires { ⌜ x ≤ 256 ⌝ }
     ensures { λ r. ⌜ r ≡ lengths (take x marks) ⌝ }
 {
@@ -88,7 +109,7 @@ fn settled(t: Texts) -> Texts
     ensures { λ r. ⌜ Settled t r ⌝ }
 {
     let marks = t.marks;
-    let end = start_of(marks, 256);
+    let end = start_of(marks, BYTES);
     if end > ROOM {
         return empty();
     }
@@ -96,7 +117,7 @@ fn settled(t: Texts) -> Texts
 }
 
 // An ordinary byte: one look at its mark, without the table by value. True only of a byte that is not defined.
-pub fn is_unmarked(marks: &[u16; 256], x: u8) -> bool
+pub fn is_unmarked(marks: &[u16; BYTES], x: u8) -> bool
     ensures { λ r. ⌜ r ≡ isUnmarked (now (marks .entry)) x ⌝ }
 {
     let at = x as usize;
@@ -111,15 +132,15 @@ pub fn is_defined(t: Texts, x: u8) -> bool
     if marks[at] == 0 {
         return false;
     }
-    let end = start_of(marks, 256);
+    let end = start_of(marks, BYTES);
     end <= ROOM
 }
 
-fn copied(part: &[u8]) -> [u8; 255]
+fn copied(part: &[u8]) -> [u8; LONGEST]
     requires { ⌜ length (now part) ≤ 255 ⌝ }
     ensures { λ r. ⌜ r ≡ now (part .entry) ++ replicate (255 - length (now (part .entry))) 0 ⌝ }
 {
-    let mut out = [0u8; 255];
+    let mut out = [0u8; LONGEST];
     let mut i: usize = 0;
     while i < part.len() {
         out[i] = part[i];
@@ -189,12 +210,12 @@ fn define_text(t: Texts, x: u8, text: &[u8]) -> Defined
     let old = length_of(marks[at]);
     let mark = mark_for(x, text);
     let len = length_of(mark);
-    let total = start_of(marks, 256);
+    let total = start_of(marks, BYTES);
     let start = start_of(marks, at);
     let end = start + old;
     if total - old + len > ROOM {
         return Defined {
-            verdict: Verdict::Refused(2),
+            verdict: Verdict::Refused(Reason::TooLong),
             table: t,
         };
     }
@@ -211,15 +232,15 @@ fn define_text(t: Texts, x: u8, text: &[u8]) -> Defined
 pub fn define(t: Texts, x: u8, rest: &[u8]) -> Defined
     ensures { λ r. ⌜ Met (judged (viewTexts t) x (now (rest .entry))) t x (drop 1 (now (rest .entry))) r ⌝ }
 {
-    if x == 255 {
+    if x == IAC {
         return Defined {
-            verdict: Verdict::Refused(1),
+            verdict: Verdict::Refused(Reason::BadChoice),
             table: t,
         };
     }
     if rest.len() == 0 {
         return Defined {
-            verdict: Verdict::Refused(0),
+            verdict: Verdict::Refused(Reason::Other),
             table: t,
         };
     }
@@ -227,9 +248,39 @@ pub fn define(t: Texts, x: u8, rest: &[u8]) -> Defined
     let count = rest[0] as usize;
     if text.len() != count {
         return Defined {
-            verdict: Verdict::Refused(3),
+            verdict: Verdict::Refused(Reason::WrongLength),
             table: t,
         };
     }
     define_text(t, x, text)
+}
+
+// The number that a reason is sent as.
+pub fn reason_number(r: Reason) -> u8
+    ensures { λ n. ⌜ n ≡ reasonNumber r ⌝ }
+{
+    match r {
+        Reason::Other => 0,
+        Reason::BadChoice => 1,
+        Reason::TooLong => 2,
+        Reason::WrongLength => 3,
+    }
+}
+
+// ACCEPT, or REFUSE with its reason.
+pub fn put_verdict(v: Verdict, x: u8, out: &mut [u8]) -> usize
+    requires { ⌜ RoomFor (verdictBytes v x) (now out) ⌝ }
+    ensures { λ r. ⌜ Wrote (verdictBytes v x) (now (out .entry)) (now (out .exit)) r ⌝ }
+{
+    match v {
+        Verdict::Accepted => {
+            let body = [BM, ACCEPT, x];
+            wire::put_frame(&body, out)
+        }
+        Verdict::Refused(reason) => {
+            let number = reason_number(reason);
+            let body = [BM, REFUSE, x, number];
+            wire::put_frame(&body, out)
+        }
+    }
 }

@@ -1,10 +1,15 @@
 // The sides that each end carries, their states, and ECHO against RCTE.
 ghost use mathlib.Core.Path.{_≡_};
-ghost use Rattle.negotiation.specs.Carried.{printerSide, bulletinSide, isCarried, standing, moved, free, clashes};
+ghost use Rattle.negotiation.specs.Carried.{printerSide, bulletinSide, isCarried, standing, moved, allNo, free, clashes};
 use crate::Side;
 use crate::Sides;
 use crate::Standing;
 use crate::table;
+use codes::BM;
+use codes::ECHO;
+use codes::NAOCRD;
+use codes::RCTE;
+use codes::SGA;
 use codes::Whose;
 
 // What the printer end carries: four options on his side, two on ours.
@@ -13,15 +18,15 @@ pub fn printer_side(w: Whose, option: u8) -> Side
 {
     match w {
         Whose::His => match option {
-            1 => Side::Echo,
-            3 => Side::BulletinSga,
-            7 => Side::Rcte,
-            19 => Side::Macro,
+            ECHO => Side::Echo,
+            SGA => Side::BulletinSga,
+            RCTE => Side::Rcte,
+            BM => Side::Macro,
             _ => Side::Uncarried,
         },
         Whose::Ours => match option {
-            3 => Side::PrinterSga,
-            10 => Side::Returns,
+            SGA => Side::PrinterSga,
+            NAOCRD => Side::Returns,
             _ => Side::Uncarried,
         },
     }
@@ -79,6 +84,20 @@ fn sides_of(
         bm,
         printersga,
         naocrd,
+    }
+}
+
+// As an end begins: nothing is agreed.
+pub fn all_no() -> Sides
+    ensures { λ r. ⌜ r ≡ allNo ⌝ }
+{
+    Sides {
+        echo: Standing::No,
+        sga: Standing::No,
+        rcte: Standing::No,
+        bm: Standing::No,
+        printersga: Standing::No,
+        naocrd: Standing::No,
     }
 }
 

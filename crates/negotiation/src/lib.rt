@@ -9,6 +9,7 @@ pub use asks::asked_side_printer;
 pub use asks::asked_whose;
 pub use asks::declined;
 pub use asks::put_reply;
+pub use carried::all_no;
 pub use carried::bulletin_side;
 pub use carried::clashes;
 pub use carried::free;

@@ -39,14 +39,14 @@ use Rattle.bodies.specs.MacroBodies.{macroBody, defineRest}
 use Rattle.bodies.specs.ValueBodies.{valueBody}
 use Rattle.macros.specs.declared.Verdict.{Verdict}
 use Rattle.macros.specs.declared.Verdict.the-variants.{Accepted, Refused}
-use Rattle.macros.specs.Texts.{plain, Table, noMacros, entryOf, isItself, entryFor, defined, total, textRoom, judgedRest, judged, afterDefine}
+use Rattle.macros.specs.Texts.{plain, Table, noMacros, entryOf, isItself, entryFor, defined, total, textRoom, judgedRest, judged, afterDefine, reasonNumber, verdictBytes}
 use Rattle.echo.specs.Taking.{gatherRoom}
 use Rattle.echo.specs.Control as control
 use Rattle.echo.specs.Control.{Echoed, waitRoom, started, holding, commanded, ordersNow, ended}
 use Rattle.disposition.specs.declared.Values.{Values}
 use Rattle.disposition.specs.Returns.{unspoken, withDs}
 use Rattle.printer.specs.State.{Printer, withSides, withReader, withTable, withEcho, withValues, rcteOn, echoOn, returnsOn, macrosOn, Did, sends, nothing, notes, printing, echoing}
-use Rattle.printer.specs.Network.{dataRead, rcteMoved, sideMoved, replied, sideHeard, negotiationRead, rcteRead, verdictBytes, macroRead, valueRead, optionRead, bodyRead, itemRead, byteRead, bytesRead}
+use Rattle.printer.specs.Network.{dataRead, rcteMoved, sideMoved, replied, sideHeard, negotiationRead, rcteRead, macroRead, valueRead, optionRead, bodyRead, itemRead, byteRead, bytesRead}
 use Rattle.printer.specs.Limits.{textLimit, InBytes, Limited}
 use Rattle.macros.specs.Packed.{textOf}
 use Rattle.printer.proofs.LimitsEcho.{Spends, releases, ends}
@@ -184,7 +184,7 @@ defines t x rest i all = either (λ v. AllShort (afterDefine v t x (drop 1 rest)
 verdict-long : (v : Verdict) (x : ℕ) → length (verdictBytes v x) ≤ 10
 unfolding frame joined
 verdict-long Accepted x = simp length-append (omega (arith, coded-one BM refl, coded-one ACCEPT refl, coded-long x))
-verdict-long (Refused reason) x = simp length-append (omega (arith, coded-one BM refl, coded-one REFUSE refl, coded-long x, coded-long reason))
+verdict-long (Refused reason) x = simp length-append (omega (arith, coded-one BM refl, coded-one REFUSE refl, coded-long x, coded-long (reasonNumber reason)))
 
 -- the bodies, of a state s; a reply to one is at most ten bytes
 module _ {H : Type 0} (n : ℕ) (ten : 10 ≤ n) (s : Printer) (h : H → Limited s) where

@@ -6,7 +6,7 @@ use lib.ListN.{length}
 use lib.Dec.{eqb}
 use Rattle.lists.specs.Choice.{pick}
 use Rattle.codes.specs.Answers.{noRoom, Guard, when, guarded}
-use Rattle.codes.specs.Telnet.{NAOCRD, DR, plainCommand}
+use Rattle.codes.specs.Telnet.{DR, plainCommand}
 use Rattle.codes.specs.declared.Code.{Code}
 use Rattle.codes.specs.declared.Code.the-variants.{NoRoom, QueueFull, BadCommand, AlreadySo, NotInForce, BadValue}
 use Rattle.codes.specs.declared.Note.the-variants.{Clear}
@@ -14,7 +14,6 @@ use Rattle.codes.specs.declared.Whose.{Whose}
 use Rattle.keys.specs.declared.Key.{Key}
 use Rattle.keys.specs.declared.Key.the-variants.{Char, Line, Command}
 use Rattle.keys.specs.Keys.{keyWire}
-use Rattle.wire.specs.Frames.{frame}
 use Rattle.negotiation.specs.declared.Side.{Side}
 use Rattle.negotiation.specs.Carried.{printerSide, askedSide, askedWhose, askedEnable, askedBy, askGuards}
 use Rattle.bodies.specs.ValueBodies.{isBadValue}
@@ -22,7 +21,7 @@ use Rattle.echo.specs.Taking.{sentPaper, sentAtOnce}
 use Rattle.echo.specs.Control.{isFull, pressed}
 use Rattle.disposition.specs.declared.Handling.{Handling}
 use Rattle.disposition.specs.declared.Handling.the-variants.{Receiver}
-use Rattle.disposition.specs.Returns.{withDr, handling}
+use Rattle.disposition.specs.Returns.{withDr, suggestion, handling}
 use Rattle.printer.specs.State.{Printer, withValues, rcteOn, echoOn, returnsOn, Did, sends, nothing, echoing, Answer, done, refused}
 use Rattle.printer.specs.Network.{networkRead, replied}
 
@@ -60,7 +59,7 @@ unfoldable pub suggestCall : Printer → ℕ → ℕ → ℕ → Answer
 suggestCall s v paper wire =
     guarded (when (noRoom paper wire) NoRoom ∷ when (not (returnsOn s)) NotInForce ∷ when (isBadValue v) BadValue ∷ when (eqb v (s .values .dr)) AlreadySo ∷ [])
     (refused s)
-    (done (sends (frame (NAOCRD ∷ DR ∷ v ∷ [])) (withValues s (withDr (s .values) v))))
+    (done (sends (suggestion DR v) (withValues s (withDr (s .values) v))))
 
 -- who handles carriage returns, and how; while NAOCRD is not in force, the receiver with 255
 unfoldable pub returnsReport : Printer → Handling

@@ -1,13 +1,13 @@
 -- The sizes that every state of a session keeps, and the claims that one call fits its lent buffers.
 use mathlib.Core.Bool.{false, _&&_}
 use mathlib.Core.Path.{_≡_}
-use mathlib.Core.List.{List, [], _∷_, List·Memᴰ}
+use mathlib.Core.List.{List, List·Memᴰ}
 use Prim.Native.Nat.{ℕ, _≤_, _<_}
 use lib.ListN.{length, getD}
 use Rattle.codes.specs.Answers.{paperRoom, wireRoom}
-use Rattle.codes.specs.Telnet.{NAOCRD, DR}
+use Rattle.codes.specs.Telnet.{DR}
 use Rattle.keys.specs.declared.Key.{Key}
-use Rattle.wire.specs.Frames.{frame}
+use Rattle.disposition.specs.Returns.{suggestion}
 use Rattle.negotiation.specs.declared.Standing.{Standing}
 use Rattle.negotiation.specs.declared.Side.{Side}
 use Rattle.reader.specs.Reading.{bodyRoom}
@@ -59,7 +59,7 @@ abbrev pub MoveFits : Type 0
 MoveFits = (s : Printer) (side : Side) (q : Standing) (reply : List ℕ) → length reply ≤ 3 → Sized s → Fits (replied s side q reply)
 
 abbrev pub SuggestionFits : Type 0
-SuggestionFits = (v : ℕ) → length (frame (NAOCRD ∷ DR ∷ v ∷ [])) ≤ wireRoom
+SuggestionFits = (v : ℕ) → length (suggestion DR v) ≤ wireRoom
 
 abbrev pub CallFits : Type 0
 CallFits = (s : Printer) (c : Call) → Sized s → Fits (called s c .did)

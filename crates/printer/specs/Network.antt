@@ -5,12 +5,11 @@ use Prim.Native.Nat.{ℕ}
 use lib.ListN.{drop}
 use lib.Dec.{eqb}
 use Rattle.lists.specs.Choice.{pick}
-use Rattle.codes.specs.Telnet.{RCTE, NAOCRD, BM, ACCEPT, REFUSE, DS, whoseOf, enables}
+use Rattle.codes.specs.Telnet.{RCTE, NAOCRD, BM, DS, whoseOf, enables}
 use Rattle.codes.specs.declared.Note.{Note}
 use Rattle.codes.specs.declared.Note.the-variants.{Unreadable, Inactive, OtherOption, Stray}
 use Rattle.codes.specs.declared.Verb.{Verb}
 use Rattle.codes.specs.declared.Whose.{Whose}
-use Rattle.wire.specs.Frames.{frame}
 use Rattle.negotiation.specs.declared.Standing.{Standing}
 use Rattle.negotiation.specs.declared.Side.{Side}
 use Rattle.negotiation.specs.declared.Side.the-variants.{Echo, BulletinSga, Rcte, Macro, PrinterSga, Returns, Uncarried}
@@ -28,8 +27,7 @@ use Rattle.bodies.specs.RcteBodies.{rcteBody}
 use Rattle.bodies.specs.MacroBodies.{macroBody, defineRest}
 use Rattle.bodies.specs.ValueBodies.{valueBody}
 use Rattle.macros.specs.declared.Verdict.{Verdict}
-use Rattle.macros.specs.declared.Verdict.the-variants.{Accepted, Refused}
-use Rattle.macros.specs.Texts.{Entry, plain, text, noMacros, entryOf, judged, afterDefine}
+use Rattle.macros.specs.Texts.{Entry, plain, text, noMacros, entryOf, judged, afterDefine, verdictBytes}
 use Rattle.echo.specs.Control.{started, holding, commanded, ended}
 use Rattle.disposition.specs.Returns.{unspoken, withDs}
 use Rattle.printer.specs.State.{Printer, withSides, withReader, withTable, withEcho, withValues, rcteOn, echoOn, returnsOn, macrosOn, Did, sends, nothing, notes, printing, echoing, behind, followed}
@@ -72,11 +70,6 @@ negotiationRead s v option = sideHeard s (whoseOf v) (enables v) option (printer
 abbrev pub rcteRead : Printer → RcteBody → Did
 rcteRead s RcteBody.Unreadable = notes Unreadable s
 rcteRead s (RcteBody.Readable c) = echoing (commanded (s .echo) c) s
-
--- ACCEPT is 19, 2, X; REFUSE is 19, 3, X, reason
-abbrev pub verdictBytes : Verdict → ℕ → List ℕ
-verdictBytes Accepted x = frame (BM ∷ ACCEPT ∷ x ∷ [])
-verdictBytes (Refused reason) x = frame (BM ∷ REFUSE ∷ x ∷ reason ∷ [])
 
 abbrev pub defineRead : Printer → ℕ → List ℕ → Verdict → Did
 defineRead s x rest v = sends (verdictBytes v x) (withTable s (afterDefine v (s .table) x (drop 1 rest)))

@@ -2,13 +2,13 @@
 ghost use mathlib.Core.Path.{_≡_};
 ghost use Prim.Native.Nat.{_≤_, _<_};
 ghost use lib.ListN.{length, drop, getD};
-ghost use Rattle.lists.specs.Buffers.{RoomFor, Wrote};
+ghost use Rattle.lists.specs.Buffers.{RoomFor};
 ghost use Rattle.bodies.specs.RcteBodies.{rcteBody};
 ghost use Rattle.bodies.specs.MacroBodies.{macroBody};
 ghost use Rattle.bodies.specs.ValueBodies.{valueBody};
 ghost use Rattle.codes.specs.Telnet.{DS};
-ghost use Rattle.macros.specs.Texts.{judged};
-ghost use Rattle.printer.specs.Network.{dataRead, rcteRead, valueRead, defineRead, macroRead, optionRead, bodyRead, verdictBytes};
+ghost use Rattle.macros.specs.Texts.{judged, verdictBytes};
+ghost use Rattle.printer.specs.Network.{dataRead, rcteRead, valueRead, defineRead, macroRead, optionRead, bodyRead};
 ghost use Rattle.reader.specs.Kept.{viewReader};
 ghost use Rattle.printer.specs.Kept.{viewPrinter, bodyEndRead, MetStep, MetQuietly, MetWire};
 use crate::Printer;
@@ -20,9 +20,11 @@ use bodies::MacroBody;
 use bodies::MacroCommand;
 use bodies::RcteBody;
 use bodies::ValueBody;
+use codes::BM;
+use codes::DS;
+use codes::NAOCRD;
 use codes::Note;
-use disposition::Values;
-use macros::Verdict;
+use codes::RCTE;
 use reader::Reader;
 
 // An RCTE command, with RCTE in force.
@@ -51,34 +53,14 @@ fn rcte_read(s: Printer, body: &[u8], paper: &mut [u8], wire: &mut [u8]) -> Step
 fn value_read(s: Printer, body: &[u8]) -> Step
     ensures { λ r. ⌜ MetQuietly (valueRead (viewPrinter s) (valueBody DS (now (body .entry)))) s r ⌝ }
 {
-    let ValueBody::Readable(value) = bodies::value_body(1, body) else {
+    let ValueBody::Readable(value) = bodies::value_body(DS, body) else {
         return moves::quiet(s, Note::Unreadable);
     };
     let old = s.values;
-    let values = Values {
-        ds: value,
-        dr: old.dr,
-    };
+    let values = disposition::with_ds(old, value);
     let mut t = s;
     t.values = values;
     moves::quiet(t, Note::Clear)
-}
-
-// ACCEPT, or REFUSE with its reason.
-fn put_verdict(v: Verdict, x: u8, wire: &mut [u8]) -> usize
-    requires { ⌜ RoomFor (verdictBytes v x) (now wire) ⌝ }
-    ensures { λ r. ⌜ Wrote (verdictBytes v x) (now (wire .entry)) (now (wire .exit)) r ⌝ }
-{
-    match v {
-        Verdict::Accepted => {
-            let body = [19u8, 2, x];
-            wire::put_frame(&body, wire)
-        }
-        Verdict::Refused(reason) => {
-            let body = [19u8, 3, x, reason];
-            wire::put_frame(&body, wire)
-        }
-    }
 }
 
 // A DEFINE of x; rest is its count and string.
@@ -90,7 +72,7 @@ fn define_read(s: Printer, x: u8, rest: &[u8], wire: &mut [u8]) -> Step
     let d = macros::define(old, x, rest);
     let verdict = d.verdict;
     let table = d.table;
-    let n = put_verdict(verdict, x, wire);
+    let n = macros::put_verdict(verdict, x, wire);
     let mut t = s;
     t.table = table;
     Step {
@@ -126,19 +108,19 @@ fn option_read(s: Printer, body: &[u8], paper: &mut [u8], wire: &mut [u8]) -> St
     let sides = s.sides;
     let option = body[0];
     match option {
-        7 => {
+        RCTE => {
             if on::rcte(sides) {
                 return rcte_read(s, body, paper, wire);
             }
             moves::quiet(s, Note::Inactive)
         }
-        10 => {
+        NAOCRD => {
             if on::returns(sides) {
                 return value_read(s, body);
             }
             moves::quiet(s, Note::Inactive)
         }
-        19 => {
+        BM => {
             if on::macros(sides) {
                 return macro_read(s, body, paper, wire);
             }

@@ -2,7 +2,6 @@
 ghost use mathlib.Core.Path.{_≡_};
 ghost use mathlib.Core.Bool.{false, _&&_};
 ghost use lib.ListN.{length};
-ghost use Rattle.codes.specs.Answers.{noRoom};
 ghost use Rattle.echo.specs.Control.{isFull};
 ghost use Rattle.printer.specs.State.{rcteOn};
 ghost use Rattle.printer.specs.Calls.{networkCall, keyCall, keyTyped, badKey, askCall, suggestCall, returnsReport};
@@ -15,29 +14,21 @@ use crate::moves;
 use crate::network;
 use crate::on;
 use codes::Code;
+use codes::DR;
 use codes::Note;
 use disposition::Handling;
-use disposition::Values;
+use disposition::UNSPOKEN_DS;
 use keys::Key;
 use negotiation::Asked;
-use negotiation::Sides;
-use negotiation::Standing;
 
 pub fn fresh() -> Printer
     ensures { λ r. ⌜ MetFresh r ⌝ }
 {
-    let sides = Sides {
-        echo: Standing::No,
-        sga: Standing::No,
-        rcte: Standing::No,
-        bm: Standing::No,
-        printersga: Standing::No,
-        naocrd: Standing::No,
-    };
+    let sides = negotiation::all_no();
     let reader = reader::idle();
     let table = macros::empty();
     let echo = echo::started();
-    let values = Values { ds: 255, dr: 0 };
+    let values = disposition::unspoken();
     Printer {
         sides,
         reader,
@@ -74,20 +65,10 @@ fn done(step: Step) -> Answer
     }
 }
 
-// Code 1: a lent buffer that is too small.
-fn no_room(paper: usize, wire: usize) -> bool
-    ensures { λ r. ⌜ r ≡ noRoom paper wire ⌝ }
-{
-    if paper < 1024 {
-        return true;
-    }
-    wire < 2048
-}
-
 pub fn network_byte(s: Printer, b: u8, paper: &mut [u8], wire: &mut [u8]) -> Answer
     ensures { λ r. ⌜ MetAnswer (networkCall (viewPrinter s) b (length (now (paper .entry))) (length (now (wire .entry)))) s (now (paper .entry)) (now (paper .exit)) (now (wire .entry)) (now (wire .exit)) r ⌝ }
 {
-    if no_room(paper.len(), wire.len()) {
+    if codes::no_room(paper.len(), wire.len()) {
         return refused(s, Code::NoRoom);
     }
     let sides = s.sides;
@@ -164,7 +145,7 @@ fn key_typed(s: Printer, k: Key, paper: &mut [u8], wire: &mut [u8]) -> Step
 pub fn press(s: Printer, k: Key, paper: &mut [u8], wire: &mut [u8]) -> Answer
     ensures { λ r. ⌜ MetAnswer (keyCall (viewPrinter s) k (length (now (paper .entry))) (length (now (wire .entry)))) s (now (paper .entry)) (now (paper .exit)) (now (wire .entry)) (now (wire .exit)) r ⌝ }
 {
-    if no_room(paper.len(), wire.len()) {
+    if codes::no_room(paper.len(), wire.len()) {
         return refused(s, Code::NoRoom);
     }
     if bad_key(k) {
@@ -181,7 +162,7 @@ pub fn press(s: Printer, k: Key, paper: &mut [u8], wire: &mut [u8]) -> Answer
 pub fn ask(s: Printer, option: u8, way: u8, paper: &mut [u8], wire: &mut [u8]) -> Answer
     ensures { λ r. ⌜ MetAnswer (askCall (viewPrinter s) option way (length (now (paper .entry))) (length (now (wire .entry)))) s (now (paper .entry)) (now (paper .exit)) (now (wire .entry)) (now (wire .exit)) r ⌝ }
 {
-    if no_room(paper.len(), wire.len()) {
+    if codes::no_room(paper.len(), wire.len()) {
         return refused(s, Code::NoRoom);
     }
     let side = negotiation::asked_side_printer(option, way);
@@ -207,7 +188,7 @@ pub fn ask(s: Printer, option: u8, way: u8, paper: &mut [u8], wire: &mut [u8]) -
 pub fn suggest(s: Printer, v: u8, paper: &mut [u8], wire: &mut [u8]) -> Answer
     ensures { λ r. ⌜ MetAnswer (suggestCall (viewPrinter s) v (length (now (paper .entry))) (length (now (wire .entry)))) s (now (paper .entry)) (now (paper .exit)) (now (wire .entry)) (now (wire .exit)) r ⌝ }
 {
-    if no_room(paper.len(), wire.len()) {
+    if codes::no_room(paper.len(), wire.len()) {
         return refused(s, Code::NoRoom);
     }
     let sides = s.sides;
@@ -221,9 +202,8 @@ pub fn suggest(s: Printer, v: u8, paper: &mut [u8], wire: &mut [u8]) -> Answer
     if v == old.dr {
         return refused(s, Code::AlreadySo);
     }
-    let body = [10u8, 0, v];
-    let n = wire::put_frame(&body, wire);
-    let values = Values { ds: old.ds, dr: v };
+    let n = disposition::put_suggestion(DR, v, wire);
+    let values = disposition::with_dr(old, v);
     let mut t = s;
     t.values = values;
     Answer {
@@ -244,5 +224,5 @@ pub fn report(s: Printer) -> Handling
         let values = s.values;
         return disposition::handling_of(values);
     }
-    Handling::Receiver(255)
+    Handling::Receiver(UNSPOKEN_DS)
 }

@@ -13,7 +13,6 @@ use crate::on;
 use codes::Note;
 use codes::Verb;
 use codes::Whose;
-use disposition::Values;
 use negotiation::Reply;
 use negotiation::Side;
 use negotiation::Standing;
@@ -104,7 +103,7 @@ fn returns_moved(s: Printer, q: Standing) -> Printer
     if negotiation::is_yes(q) {
         return t;
     }
-    let values = Values { ds: 255, dr: 0 };
+    let values = disposition::unspoken();
     t.values = values;
     t
 }

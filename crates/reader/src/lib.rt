@@ -3,29 +3,19 @@ ghost use mathlib.Core.Path.{_≡_};
 ghost use Prim.Native.Nat.{min};
 ghost use Rattle.reader.specs.Reading.{inPhase, gives, keeping, marring, commandRead, bodyCommandRead, readIn, read, isBetween, isData};
 ghost use Rattle.reader.specs.Kept.{viewReader, MetIdle, MetRead};
+use codes::DO;
+use codes::DONT;
+use codes::GA;
+use codes::IAC;
+use codes::NOP;
+use codes::SB;
+use codes::SE;
 use codes::Verb;
-
-// The commands that the reader tells apart.
-const SE: u8 = 240;
-
-const NOP: u8 = 241;
-
-const GA: u8 = 249;
-
-const SB: u8 = 250;
-
-const WILL: u8 = 251;
-
-const WONT: u8 = 252;
-
-const DO: u8 = 253;
-
-const DONT: u8 = 254;
-
-const IAC: u8 = 255;
+use codes::WILL;
+use codes::WONT;
 
 // The first bytes of a body that are kept, its option among them.
-const BODY_ROOM: usize = 260;
+pub const BODY_ROOM: usize = 260;
 
 // Where the reader stands. Between is between commands.
 pub enum Phase {
@@ -49,7 +39,7 @@ pub enum Item {
 pub struct Reader {
     pub phase: Phase,
     pub marred: bool,
-    pub body: [u8; 260],
+    pub body: [u8; BODY_ROOM],
     pub len: usize,
 }
 
@@ -64,7 +54,7 @@ pub fn idle() -> Reader
     Reader {
         phase: Phase::Between,
         marred: false,
-        body: [0u8; 260],
+        body: [0u8; BODY_ROOM],
         len: 0,
     }
 }
@@ -205,8 +195,8 @@ pub fn read_byte(r: Reader, b: u8) -> Read
 }
 
 // How many bytes of a body are kept.
-pub fn body_len(len: usize) -> usize
-    ensures { λ r. ⌜ r ≡ min len 260 ⌝ }
+pub fn body_len(n: usize) -> usize
+    ensures { λ r. ⌜ r ≡ min n 260 ⌝ }
 {
-    if len < 260 { len } else { 260 }
+    if n < BODY_ROOM { n } else { BODY_ROOM }
 }

@@ -32,12 +32,11 @@ use Rattle.bodies.specs.declared.ValueBody.{ValueBody}
 use Rattle.bodies.specs.RcteBodies.{rcteBody}
 use Rattle.bodies.specs.MacroBodies.{macroBody, defineRest}
 use Rattle.bodies.specs.ValueBodies.{valueBody, isBadValue}
-use Rattle.wire.specs.Frames.{frame}
-use Rattle.macros.specs.Texts.{Entry, plain, text, noMacros, entryOf, judged, afterDefine}
-use Rattle.disposition.specs.Returns.{unspoken, withDs, withDr}
+use Rattle.macros.specs.Texts.{Entry, plain, text, noMacros, entryOf, judged, afterDefine, verdictBytes}
+use Rattle.disposition.specs.Returns.{unspoken, withDs, withDr, suggestion}
 use Rattle.echo.specs.Control.{Echo as EchoState, holding}
 use Rattle.printer.specs.State.{Printer, withSides, withReader, withTable, withEcho, withValues, rcteOn, echoOn, returnsOn, macrosOn, Did, nothing, notes, printing, behind, followed, Answer, done, refused}
-use Rattle.printer.specs.Network.{dataRead, rcteMoved, sideMoved, replied, sideHeard, negotiationRead, rcteRead, verdictBytes, macroRead, valueRead, optionRead, bodyRead, itemRead, byteRead, bytesRead, entryRead, networkRead}
+use Rattle.printer.specs.Network.{dataRead, rcteMoved, sideMoved, replied, sideHeard, negotiationRead, rcteRead, macroRead, valueRead, optionRead, bodyRead, itemRead, byteRead, bytesRead, entryRead, networkRead}
 use Rattle.printer.specs.Calls.{networkCall, askCall, suggestCall}
 use Rattle.printer.specs.Session.{called}
 use Rattle.printer.specs.Session.Call.{network, ask, suggest}
@@ -229,4 +228,4 @@ suggest-call s v paper wire =
     ∷ when (isBadValue v) BadValue
     ∷ when (eqb v (s .values .dr)) AlreadySo
     ∷ [])
-    (λ n. plain-step s (withValues s (withDr (s .values) v)) refl Clear [] (frame (NAOCRD ∷ DR ∷ v ∷ [])))
+    (λ n. plain-step s (withValues s (withDr (s .values) v)) refl Clear [] (suggestion DR v))

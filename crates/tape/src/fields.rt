@@ -3,8 +3,11 @@ ghost use mathlib.Core.Path.{_≡_};
 ghost use Prim.Native.Nat.{_+_, _≤_};
 ghost use lib.ListN.{length};
 ghost use Rattle.tape.specs.Fields.{headSize, sizeAt, isKnown, foundAt, partOf};
+use super::ASKS;
 use super::Cursor;
 use super::Found;
+use super::KEYS;
+use super::NETWORK;
 
 // The tag and the length.
 const HEAD: usize = 3;
@@ -24,8 +27,8 @@ fn is_known(tag: u8, size: usize) -> bool
     ensures { λ r. ⌜ r ≡ isKnown tag size ⌝ }
 {
     match tag {
-        1 => true,
-        2 | 3 => size % 2 == 0,
+        NETWORK => true,
+        KEYS | ASKS => size % 2 == 0,
         _ => false,
     }
 }

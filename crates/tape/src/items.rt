@@ -7,6 +7,8 @@ ghost use Rattle.tape.specs.Lines.{answerLine};
 ghost use Rattle.tape.specs.Running.{pairCall, itemCall};
 ghost use Rattle.tape.specs.Steps.{pairOf, itemOf};
 ghost use Rattle.tape.specs.Kept.{MetItem};
+use super::KEYS;
+use super::NETWORK;
 use super::Pair;
 use super::Place;
 use super::Shown;
@@ -18,20 +20,26 @@ use printer::Answer;
 use printer::Printer;
 use printer::calls;
 
-// (0, byte), (1, 0), (2, code).
+// The kinds of key pairs: (0, byte), (1, 0), (2, code).
+const CHAR: u8 = 0;
+
+const LINE: u8 = 1;
+
+const COMMAND: u8 = 2;
+
 fn key_of(kind: u8, v: u8) -> Pair
     ensures { λ r. ⌜ r ≡ pairOf kind v ⌝ }
 {
     match kind {
-        0 => Pair::Typed(Key::Char(v)),
-        1 => {
+        CHAR => Pair::Typed(Key::Char(v)),
+        LINE => {
             if v == 0 {
                 Pair::Typed(Key::Line)
             } else {
                 Pair::Other
             }
         }
-        2 => Pair::Typed(Key::Command(v)),
+        COMMAND => Pair::Typed(Key::Command(v)),
         _ => Pair::Other,
     }
 }
@@ -58,8 +66,8 @@ fn call_item(s: Printer, tag: u8, a: u8, b: u8, paper: &mut [u8], wire: &mut [u8
     ensures { λ r. ⌜ MetAnswer (itemCall (viewPrinter s) (itemOf tag a b) (length (now (paper .entry))) (length (now (wire .entry)))) s (now (paper .entry)) (now (paper .exit)) (now (wire .entry)) (now (wire .exit)) r ⌝ }
 {
     match tag {
-        1 => calls::network_byte(s, a, paper, wire),
-        2 => press_pair(s, a, b, paper, wire),
+        NETWORK => calls::network_byte(s, a, paper, wire),
+        KEYS => press_pair(s, a, b, paper, wire),
         _ => calls::ask(s, a, b, paper, wire),
     }
 }

@@ -7,6 +7,13 @@ pub mod items;
 pub mod lines;
 pub mod running;
 
+// The tags of fields: network bytes, key pairs, ask pairs.
+pub const NETWORK: u8 = 1;
+
+pub const KEYS: u8 = 2;
+
+pub const ASKS: u8 = 3;
+
 pub struct Cursor {
     pub at: usize,
 }

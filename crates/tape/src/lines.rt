@@ -7,6 +7,9 @@ ghost use Rattle.lists.specs.Buffers.{RoomFor, Wrote};
 ghost use Rattle.tape.specs.Lines.{digits, decimal, hexDigit, hexByte, hexOf, lineOf, isQuiet, shown, badTape};
 ghost use Rattle.tape.specs.Parts.{numberThen, hexThen, numbersOf, bytesOf};
 
+// The most digits that a number is printed with.
+const DIGITS: usize = 5;
+
 // At most that many digits of a number, its last ones.
 fn put_digits(most: usize, m: usize, out: &mut [u8]) -> usize
     requires { ⌜ RoomFor (digits most m) (now out) ⌝ }
@@ -29,7 +32,7 @@ pub fn put_decimal(n: usize, out: &mut [u8]) -> usize
     requires { ⌜ RoomFor (decimal n) (now out) ⌝ }
     ensures { λ r. ⌜ Wrote (decimal n) (now (out .entry)) (now (out .exit)) r ⌝ }
 {
-    put_digits(5, n, out)
+    put_digits(DIGITS, n, out)
 }
 
 // Hex capitals.

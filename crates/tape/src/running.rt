@@ -16,11 +16,14 @@ ghost use Rattle.tape.specs.Kept.{viewMachine, MetGoing, MetStart};
 use super::Cursor;
 use super::Found;
 use super::Machine;
+use super::NETWORK;
 use super::Place;
 use super::Stepped;
 use super::fields;
 use super::items;
 use super::lines;
+use codes::PAPER_ROOM;
+use codes::WIRE_ROOM;
 use printer::calls;
 
 // The sizes of the buffers that are lent.
@@ -51,7 +54,7 @@ fn width(tag: u8) -> usize
     ensures { λ r. ⌜ r ≡ width tag ⌝ }
 {
     match tag {
-        1 => 1,
+        NETWORK => 1,
         _ => 2,
     }
 }
@@ -117,8 +120,8 @@ fn one_item(
 {
     let place = m.place;
     let printer = m.printer;
-    let p = used_for(m.paper, PAPER, 1024);
-    let w = used_for(m.wire, WIRE, 2048);
+    let p = used_for(m.paper, PAPER, PAPER_ROOM);
+    let w = used_for(m.wire, WIRE, WIRE_ROOM);
     let shown = items::put_item(printer, place, a, b, &mut paper[p..], &mut wire[w..], out);
     let state = shown.state;
     let machine = Machine {
@@ -262,7 +265,7 @@ pub fn begin() -> Machine
         place: Place {
             field: 0,
             item: 0,
-            tag: 1,
+            tag: NETWORK,
             at: 0,
             left: 0,
             next: 0,
@@ -276,7 +279,7 @@ pub fn begin() -> Machine
 pub fn run(tape: &[u8], m: Machine, out: &mut [u8]) -> Stepped
     ensures { λ r. ⌜ MetGoing (ranFor (now (tape .entry)) (viewMachine m) (length (now (out .entry)))) m (now (out .entry)) (now (out .exit)) r ⌝ }
 {
-    let mut paper = [0u8; 4096];
-    let mut wire = [0u8; 8192];
+    let mut paper = [0u8; PAPER];
+    let mut wire = [0u8; WIRE];
     run_lent(tape, m, &mut paper, &mut wire, out)
 }

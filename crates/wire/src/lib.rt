@@ -6,8 +6,16 @@ ghost use Rattle.lists.specs.Buffers.{RoomFor, Wrote};
 ghost use Rattle.keys.specs.Keys.{keyWire};
 ghost use Rattle.wire.specs.Frames.{coded, doubled, negotiation, frame, literal};
 ghost use Rattle.keys.specs.declared.Key.the-variants.{Char};
+use codes::BM;
+use codes::IAC;
+use codes::LITERAL;
+use codes::SB;
+use codes::SE;
 use codes::Verb;
+use keys::CR;
 use keys::Key;
+use keys::LF;
+use keys::NUL;
 
 // A byte of data or of a body.
 pub fn put_coded(b: u8, out: &mut [u8]) -> usize
@@ -15,9 +23,9 @@ pub fn put_coded(b: u8, out: &mut [u8]) -> usize
     ensures { λ r. ⌜ Wrote (coded b) (now (out .entry)) (now (out .exit)) r ⌝ }
 {
     match b {
-        255 => {
-            out[0] = 255;
-            out[1] = 255;
+        IAC => {
+            out[0] = IAC;
+            out[1] = IAC;
             2
         }
         _ => {
@@ -32,7 +40,7 @@ pub fn put_negotiation(v: Verb, option: u8, out: &mut [u8]) -> usize
     ensures { λ r. ⌜ Wrote (negotiation v option) (now (out .entry)) (now (out .exit)) r ⌝ }
 {
     let verb = codes::verb_number(v);
-    out[0] = 255;
+    out[0] = IAC;
     out[1] = verb;
     out[2] = option;
     3
@@ -73,12 +81,12 @@ pub fn put_frame(body: &[u8], out: &mut [u8]) -> usize
     requires { ⌜ RoomFor (frame (now body)) (now out) ⌝ }
     ensures { λ r. ⌜ Wrote (frame (now (body .entry))) (now (out .entry)) (now (out .exit)) r ⌝ }
 {
-    out[0] = 255;
-    out[1] = 250;
+    out[0] = IAC;
+    out[1] = SB;
     let n = put_doubled(body, &mut out[2..]);
     let at = n + 2;
-    out[at] = 255;
-    out[at + 1] = 240;
+    out[at] = IAC;
+    out[at + 1] = SE;
     n + 4
 }
 
@@ -86,7 +94,7 @@ pub fn put_literal(x: u8, out: &mut [u8]) -> usize
     requires { ⌜ RoomFor (literal x) (now out) ⌝ }
     ensures { λ r. ⌜ Wrote (literal x) (now (out .entry)) (now (out .exit)) r ⌝ }
 {
-    let body = [19u8, 4, x];
+    let body = [BM, LITERAL, x];
     put_frame(&body, out)
 }
 
@@ -97,12 +105,12 @@ pub fn put_key(k: Key, out: &mut [u8]) -> usize
     match k {
         Key::Char(b) => put_char(b, out),
         Key::Line => {
-            out[0] = 13;
-            out[1] = 10;
+            out[0] = CR;
+            out[1] = LF;
             2
         }
         Key::Command(c) => {
-            out[0] = 255;
+            out[0] = IAC;
             out[1] = c;
             2
         }
@@ -114,9 +122,9 @@ fn put_char(b: u8, out: &mut [u8]) -> usize
     requires { ⌜ RoomFor (keyWire (Char b)) (now out) ⌝ }
     ensures { λ r. ⌜ Wrote (keyWire (Char b)) (now (out .entry)) (now (out .exit)) r ⌝ }
 {
-    if b == 13 {
-        out[0] = 13;
-        out[1] = 0;
+    if b == CR {
+        out[0] = CR;
+        out[1] = NUL;
         return 2;
     }
     put_coded(b, out)

@@ -8,13 +8,12 @@ use Rattle.lists.specs.Choice.{pick}
 use Rattle.lists.specs.Lists.{joined}
 use Rattle.keys.specs.declared.Key.{Key}
 use Rattle.keys.specs.declared.Key.the-variants.{Char, Line, Command}
-use Rattle.macros.specs.Texts.{Table, noMacros, defined, judged}
+use Rattle.macros.specs.Texts.{Table, noMacros, defined, judged, verdictBytes}
 use Rattle.echo.specs.Taking.{How, noOrders, takenUp}
 use Rattle.echo.specs.Taking.How.{atOnce, under}
 use Rattle.disposition.specs.declared.Handling.{Handling}
 use Rattle.disposition.specs.declared.Handling.the-variants.{Sender, Receiver}
 use Rattle.printer.specs.State.{fresh}
-use Rattle.printer.specs.Network.{verdictBytes}
 use Rattle.printer.specs.Calls.{returnsReport}
 use Rattle.printer.specs.Session as PS
 use Rattle.bulletin.specs.Session as BS

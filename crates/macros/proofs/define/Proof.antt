@@ -1,6 +1,7 @@
 use mathlib.Core.Path.{_≡_}
 use native.Mathlib.Omega.{arith}
 use lib.ListN.{length, getD, drop}
+use Rattle.macros.specs.declared.Reason.the-variants.{Other, BadChoice, WrongLength}
 use Rattle.macros.specs.Packed.{viewTexts}
 use Rattle.macros.proofs.Judging.{judged-choice, judged-bare, judged-length, judged-size, refused, string-is}
 use borrow.Author.Needs.{needs}
@@ -10,12 +11,12 @@ use Rattle.macros.proofs.define.Tie as tie
 returns : tie.Need-returns
 returns c =
     let a = c .before .before .args in
-    refused (a .t) (a .x) _ _ 1 (judged-choice (viewTexts (a .t)) (a .x) (a .rest .now) (c .if1 .taken))
+    refused (a .t) (a .x) _ _ BadChoice (judged-choice (viewTexts (a .t)) (a .x) (a .rest .now) (c .if1 .taken))
 
 returns-2 : tie.Need-returns-2
 returns-2 c =
     let a = c .before .before .before .args in
-    refused (a .t) (a .x) _ _ 0 (judged-bare (viewTexts (a .t)) (a .x) (a .rest .now) (c .before .if1 .left) (c .if2 .taken))
+    refused (a .t) (a .x) _ _ Other (judged-bare (viewTexts (a .t)) (a .x) (a .rest .now) (c .before .if1 .left) (c .if2 .taken))
 
 sub-text : tie.Need-sub-text
 sub-text c = search needs
@@ -36,7 +37,7 @@ returns-3 : tie.Need-returns-3
 returns-3 c =
     let at-if = c .before .before .before in
     let a = at-if .before .before .before .args in
-    refused (a .t) (a .x) _ _ 3 (judged-length (viewTexts (a .t)) (a .x) (a .rest .now) (at-if .before .if1 .left) (at-if .if2 .left) (rw string-is at (c .if3 .taken)))
+    refused (a .t) (a .x) _ _ WrongLength (judged-length (viewTexts (a .t)) (a .x) (a .rest .now) (at-if .before .if1 .left) (at-if .if2 .left) (rw string-is at (c .if3 .taken)))
 
 define-text-requires : tie.Need-define-text-requires
 define-text-requires c κs =

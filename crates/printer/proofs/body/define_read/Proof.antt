@@ -6,7 +6,7 @@ use Rattle.printer.proofs.body.define_read.Tie as tie
 use Rattle.printer.proofs.body.define_read.Reads as reads
 use Rattle.printer.proofs.body.define_read.Lts as lts
 use Rattle.macros.proofs.define.Reads as define-reads
-use Rattle.printer.proofs.body.put_verdict.Reads as put-verdict-reads
+use Rattle.macros.proofs.put_verdict.Reads as put-verdict-reads
 
 -- src/body.rt:66:9
 define-requires : tie.Need-define-requires

@@ -31,14 +31,16 @@ returns c =
     rw (sym (c .before .before .before .value-body .ensures) ∙ c .before .enum-told .given .1, c .quiet .ensures)
     (met-quietly _ _ _ _ refl (λ k. k))
 
--- src/body.rt:40:5
+with-ds-requires : tie.Need-with-ds-requires
+with-ds-requires c κs = search needs
+
 quiet-requires-2 : tie.Need-quiet-requires-2
 quiet-requires-2 c κs = search needs
 
 -- src/body.rt:27:1
 returns-2 : tie.Need-returns-2
 returns-2 c =
-    rw (sym (c .before .before .before .before .before .value-body .ensures) ∙ c .before .before .before .value .given .1, c .quiet2 .ensures)
+    rw (sym (c .before .before .before .before .before .before .value-body .ensures) ∙ c .before .before .before .before .value .given .1, c .quiet2 .ensures, c .before .with-ds .ensures)
     (met-quietly _ _ _ _ refl (λ k. record { reader = k .reader; table = k .table; echo = k .echo }))
 
 pub value-read-spec : {M : Type 1} → statement M
@@ -50,5 +52,6 @@ value-read-spec =
     enum-told
     quiet-requires
     returns
+    with-ds-requires
     quiet-requires-2
     returns-2)

@@ -16,7 +16,7 @@ use Rattle.printer.proofs.calls.ask.Tie as tie
 use Rattle.printer.proofs.calls.ask.Reads as reads
 use Rattle.printer.proofs.calls.ask.Lts as lts
 use Rattle.printer.proofs.calls.done.Reads as done-reads
-use Rattle.printer.proofs.calls.no_room.Reads as no-room-reads
+use Rattle.codes.proofs.no_room.Reads as no-room-reads
 use Rattle.printer.proofs.calls.refused.Reads as refused-reads
 use Rattle.printer.proofs.moves.replied.Reads as replied-reads
 

@@ -14,7 +14,7 @@ use Rattle.printer.proofs.calls.network_byte.Tie as tie
 use Rattle.printer.proofs.calls.network_byte.Reads as reads
 use Rattle.printer.proofs.calls.network_byte.Lts as lts
 use Rattle.printer.proofs.calls.done.Reads as done-reads
-use Rattle.printer.proofs.calls.no_room.Reads as no-room-reads
+use Rattle.codes.proofs.no_room.Reads as no-room-reads
 use Rattle.printer.proofs.calls.refused.Reads as refused-reads
 use Rattle.printer.proofs.network.is_ordinary.Reads as is-ordinary-reads
 use Rattle.printer.proofs.network.network_read.Reads as network-read-reads

@@ -12,7 +12,7 @@ use Rattle.printer.proofs.calls.press.Lts as lts
 use Rattle.printer.proofs.calls.bad_key.Reads as bad-key-reads
 use Rattle.printer.proofs.calls.done.Reads as done-reads
 use Rattle.printer.proofs.calls.key_typed.Reads as key-typed-reads
-use Rattle.printer.proofs.calls.no_room.Reads as no-room-reads
+use Rattle.codes.proofs.no_room.Reads as no-room-reads
 use Rattle.printer.proofs.calls.queue_full.Reads as queue-full-reads
 use Rattle.printer.proofs.calls.refused.Reads as refused-reads
 

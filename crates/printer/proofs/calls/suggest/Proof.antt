@@ -1,12 +1,11 @@
 use mathlib.Core.Path.{refl, sym, ap, _∙_}
 use mathlib.Core.Bool.{not}
-use mathlib.Core.List.{[], _∷_}
 use borrow.Author.Tests.{eq-eqb, ne-eqb}
 use lib.Dec.{lit≤}
 use Rattle.lists.proofs.Starts.{wrote-none}
 use Rattle.codes.specs.Answers.{guarded}
-use Rattle.codes.specs.Telnet.{NAOCRD, DR}
-use Rattle.wire.specs.Frames.{frame}
+use Rattle.codes.specs.Telnet.{DR}
+use Rattle.disposition.specs.Returns.{suggestion}
 use Rattle.printer.specs.State.{sends}
 use Rattle.printer.specs.Kept.{viewPrinter}
 use Rattle.printer.specs.Calls.{suggestCall}
@@ -19,10 +18,11 @@ use Rattle.printer.proofs.calls.suggest.Tie as tie
 use Rattle.printer.proofs.calls.suggest.Reads as reads
 use Rattle.printer.proofs.calls.suggest.Lts as lts
 use Rattle.bodies.proofs.bad_value.Reads as bad-value-reads
-use Rattle.printer.proofs.calls.no_room.Reads as no-room-reads
+use Rattle.codes.proofs.no_room.Reads as no-room-reads
 use Rattle.printer.proofs.calls.refused.Reads as refused-reads
 use Rattle.printer.proofs.on.returns.Reads as returns-reads
-use Rattle.wire.proofs.put_frame.Reads as put-frame-reads
+use Rattle.disposition.proofs.put_suggestion.Reads as put-suggestion-reads
+use Rattle.disposition.proofs.with_dr.Reads as with-dr-reads
 
 -- src/calls.rt:197:8
 no-room-requires : tie.Need-no-room-requires
@@ -88,19 +88,16 @@ returns-4 c =
     rw (sym (room .before .no-room .ensures) ∙ room .if1 .left, ap not (sym (on .before .returns .ensures)) ∙ on .if2 .left, sym (bad .before .bad-value .ensures) ∙ bad .if3 .left, eq-eqb _ _ (so .if4 .taken), c .refused4 .ensures)
     met-refused
 
--- src/calls.rt:212:29
-slice-aggregate-put-frame : tie.Need-slice-aggregate-put-frame
-slice-aggregate-put-frame c = search needs
-
--- src/calls.rt:212:9
-put-frame-requires : tie.Need-put-frame-requires
-put-frame-requires c κs =
-    let room = c .before .before .before .before .before .before .before .before .before .before in
+put-suggestion-requires : tie.Need-put-suggestion-requires
+put-suggestion-requires c κs =
+    let room = c .before .before .before .before .before .before .before .before .before in
     let a = room .before .before .before .before .args in
-    room-for (sends (frame (NAOCRD ∷ DR ∷ a .v ∷ [])) (viewPrinter (a .s))) (a .paper .now) (a .wire .now) (sym (room .before .no-room .ensures) ∙ room .if1 .left)
+    room-for (sends (suggestion DR (a .v)) (viewPrinter (a .s))) (a .paper .now) (a .wire .now) (sym (room .before .no-room .ensures) ∙ room .if1 .left)
     (record { paper = lit≤ tt; wire = suggestion-fits (a .v) }) .1
 
--- src/calls.rt:194:1
+with-dr-requires : tie.Need-with-dr-requires
+with-dr-requires c κs = search needs
+
 same-length : tie.Need-same-length
 same-length c = search needs
 
@@ -113,11 +110,11 @@ returns-5 c =
     let on = bad .before .before in
     let room = on .before .before .before in
     let a = room .before .before .before .before .args in
-    rw (sym (room .before .no-room .ensures) ∙ room .if1 .left, ap not (sym (on .before .returns .ensures)) ∙ on .if2 .left, sym (bad .before .bad-value .ensures) ∙ bad .if3 .left, ne-eqb _ _ (so .if4 .left))
+    rw (sym (room .before .no-room .ensures) ∙ room .if1 .left, ap not (sym (on .before .returns .ensures)) ∙ on .if2 .left, sym (bad .before .bad-value .ensures) ∙ bad .if3 .left, ne-eqb _ _ (so .if4 .left), c .with-dr .ensures)
     (record {
       code = refl;
       note = refl;
-      wrote = record { paper = wrote-none (a .paper .now); wire = c .before .before .put-frame .ensures };
+      wrote = record { paper = wrote-none (a .paper .now); wire = c .before .before .before .put-suggestion .ensures };
       view = refl;
       clean = λ k. record { reader = k .reader; table = k .table; echo = k .echo };
       whole = λ k. record { body = k .body; cells = k .cells; waiting = k .waiting; gathered = k .gathered };
@@ -139,7 +136,7 @@ suggest-spec =
     returns-3
     refused-requires-4
     returns-4
-    slice-aggregate-put-frame
-    put-frame-requires
+    put-suggestion-requires
+    with-dr-requires
     same-length
     returns-5)
