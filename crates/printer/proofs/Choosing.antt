@@ -1,10 +1,10 @@
 -- Which way a network byte is read.
-use mathlib.Core.Path.{_≡_, refl, sym, ap, _∙_}
+use mathlib.Core.Path.{_≡_, refl, ap, _∙_}
 use mathlib.Core.Bool.{Bool, true, false, _&&_, _||_, not, false≢true}
 use mathlib.Core.List.{[], _∷_}
 use Prim.Native.Nat.{ℕ}
 use Rattle.lists.specs.Choice.{pick}
-use Rattle.macros.specs.Texts.{Entry, plain, text, entryOf}
+use Rattle.macros.specs.Texts.{Entry, plain, entryOf}
 use borrow.Author.Tests.{not-true}
 use lib.Dec.{eqb}
 use Rattle.lists.proofs.Tables.{both-left, both-right}
@@ -13,7 +13,7 @@ use Rattle.reader.specs.declared.Phase.{Phase}
 use Rattle.reader.specs.declared.Phase.the-variants.{Between, AfterIac, AfterVerb, InBody, InBodyAfterIac}
 use Rattle.reader.specs.declared.Item.the-variants.{Data}
 use Rattle.reader.specs.Reading.{Read, read, readIn, gives, isBetween, isData}
-use Rattle.printer.specs.State.{Printer, Did, printing, rcteOn, macrosOn}
+use Rattle.printer.specs.State.{Printer, printing, rcteOn, macrosOn}
 use Rattle.printer.specs.Kept.{isOrdinary}
 use Rattle.printer.specs.Network.{dataRead, afterRead, byteRead, entryRead, networkRead}
 

@@ -1,7 +1,7 @@
 -- The printer end as the code keeps it: its view, its clean cells, and how a step and an answer of the code meet the rules.
 use mathlib.Core.Path.{_≡_}
-use mathlib.Core.Bool.{Bool, true, false, not, _&&_, _||_}
-use mathlib.Core.List.{List, [], _++_}
+use mathlib.Core.Bool.{Bool, not, _&&_, _||_}
+use mathlib.Core.List.{List}
 use Prim.Native.Nat.{ℕ}
 use lib.ListN.{length, take}
 use Rattle.lists.specs.Buffers.{Wrote}

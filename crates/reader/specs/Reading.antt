@@ -4,9 +4,8 @@ use mathlib.Core.List.{List, [], _∷_, _++_}
 use Prim.Native.Nat.{ℕ}
 use lib.ListN.{length}
 use lib.Dec.{ltb, eqb}
-use Rattle.lists.specs.Choice.{pick, between}
+use Rattle.lists.specs.Choice.{pick}
 use Rattle.codes.specs.Telnet.{IAC, SB, SE, plainCommand}
-use Rattle.codes.specs.declared.Verb.{Verb}
 use Rattle.codes.specs.declared.Verb.the-variants.{Will, Wont, Do, Dont}
 use Rattle.reader.specs.declared.Phase.{Phase}
 use Rattle.reader.specs.declared.Phase.the-variants.{Between, AfterIac, AfterVerb, InBody, InBodyAfterIac}

@@ -1,5 +1,5 @@
 use Rattle.lists.proofs.Starts.{wrote-none}
-use mathlib.Core.Path.{_≡_, refl, sym, _∙_}
+use mathlib.Core.Path.{refl, sym, _∙_}
 use borrow.Author.Needs.{needs}
 use Rattle.echo.proofs.pressed.Statement.{statement}
 use Rattle.echo.proofs.pressed.Tie as tie

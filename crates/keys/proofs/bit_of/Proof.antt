@@ -2,7 +2,6 @@ use native.Mathlib.Nat.{div-one}
 use Prim.Native.Nat.{ℕ, zero, suc, _≤_}
 use mathlib.Core.Path.{_≡_, refl}
 use native.Mathlib.Omega.{arith}
-use borrow.Author.Needs.{needs}
 use Rattle.keys.proofs.bit_of.Statement.{statement}
 use Rattle.keys.proofs.bit_of.Tie as tie
 use Rattle.keys.proofs.bit_of.Reads as reads

@@ -1,7 +1,5 @@
 use Rattle.keys.specs.Keys.{inClasses}
-use mathlib.Core.Path.{refl}
-use borrow.Author.Tests.{ne-eqb, eq-eqb}
-use native.Mathlib.Omega.{arith}
+use borrow.Author.Tests.{ne-eqb}
 use borrow.Author.Needs.{needs}
 use Rattle.keys.proofs.in_classes.Statement.{statement}
 use Rattle.keys.proofs.in_classes.Tie as tie

@@ -1,6 +1,5 @@
 use Rattle.codes.specs.Telnet.{IAC}
 use borrow.Author.Tests.{eq-eqb, ne-eqb}
-use mathlib.Core.Path.{_≡_, refl, sym, _∙_}
 use borrow.Author.Needs.{needs}
 use Rattle.reader.proofs.is_data.Statement.{statement}
 use Rattle.reader.proofs.is_data.Tie as tie

@@ -1,4 +1,4 @@
-use mathlib.Core.Path.{_≡_, refl, sym, _∙_}
+use mathlib.Core.Path.{sym, _∙_}
 use lib.ListN.{length-map}
 use borrow.Author.Needs.{needs}
 use Rattle.printer.proofs.calls.fresh.Statement.{statement}

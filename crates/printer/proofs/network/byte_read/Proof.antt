@@ -2,7 +2,7 @@ use Rattle.printer.proofs.Bodies.{byte-item}
 use Rattle.printer.proofs.Choosing.{data-byte}
 use Rattle.printer.specs.Kept.{viewPrinter}
 use Rattle.reader.specs.Kept.{viewReader}
-use mathlib.Core.Path.{_≡_, refl, sym, _∙_}
+use mathlib.Core.Path.{sym, _∙_}
 use borrow.Author.Needs.{needs}
 use Rattle.printer.proofs.network.byte_read.Statement.{statement}
 use Rattle.printer.proofs.network.byte_read.Tie as tie

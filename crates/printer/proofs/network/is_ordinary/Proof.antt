@@ -1,4 +1,4 @@
-use mathlib.Core.Path.{_≡_, refl, sym, _∙_}
+use mathlib.Core.Path.{sym, _∙_}
 use borrow.Author.Needs.{needs}
 use Rattle.printer.proofs.network.is_ordinary.Statement.{statement}
 use Rattle.printer.proofs.network.is_ordinary.Tie as tie
