@@ -60,16 +60,16 @@ module _ (cells : List ℕ) (n : ℕ) (l : length cells ≡ 256) where
     left-clean = clean-append (take m (drop at cells)) m (256 - m) left-long
 
   -- a key put behind those that wait
-  pub queued-keys : (p : ℕ) (k : Key) → min n 256 < 256 → unpacked p ≡ k → keysIn (set cells (min n 256) p) (min n 256 + 1) ≡ keysIn cells n ++ k ∷ []
+  pub queued-keys : (p : ℕ) (k : Key) → n < 256 → unpacked p ≡ k → keysIn (set cells n p) (n + 1) ≡ keysIn cells n ++ k ∷ []
   queued-keys p k free e =
-      let inside : min n 256 < length cells = omega arith in
-      rw (appended cells (min n 256) p inside 256 l, map-append unpacked (take (min n 256) cells) (p ∷ []), e)
-
-  pub queued-clean : (p : ℕ) → min n 256 < 256 → Clean cells n → Clean (set cells (min n 256) p) (min n 256 + 1)
-  queued-clean p free clean =
-      let e : min n 256 ≡ n = omega (arith, clean .within) in
       let inside : n < length cells = omega arith in
-      rw e (clean-appended cells n p inside clean)
+      let m : min n 256 ≡ n = omega arith in
+      rw (appended cells n p inside 256 l, m, map-append unpacked (take n cells) (p ∷ []), e)
+
+  pub queued-clean : (p : ℕ) → n < 256 → Clean cells n → Clean (set cells n p) (n + 1)
+  queued-clean p free clean =
+      let inside : n < length cells = omega arith in
+      clean-appended cells n p inside clean
 
 -- a cell that has the number of the key that it is read as
 abbrev IsNumber : ℕ → Type 0
@@ -88,8 +88,8 @@ left-numbers cells at m h =
     (every-take IsNumber 0 zero-number m (drop at cells) (every-drop IsNumber 0 at cells h))
     (no-numbers (256 - m))
 
-pub queued-numbers : (cells : List ℕ) (n p : ℕ) → packed (unpacked p) ≡ p → Numbered cells → Numbered (set cells (min n 256) p)
-queued-numbers cells n p e h = every-set IsNumber 0 cells (min n 256) p e h
+pub queued-numbers : (cells : List ℕ) (n p : ℕ) → packed (unpacked p) ≡ p → Numbered cells → Numbered (set cells n p)
+queued-numbers cells n p e h = every-set IsNumber 0 cells n p e h
 
 -- the gathered bytes
 module _ (cells : List ℕ) (filled : ℕ) (l : length cells ≡ 512) where

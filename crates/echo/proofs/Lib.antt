@@ -1,5 +1,4 @@
 pub mod Cells
-pub mod Classes
 pub mod Widths
 pub mod Gathering
 pub mod Pressing

@@ -1,11 +1,36 @@
 -- A key under RCTE waits or is taken up at once.
-use mathlib.Core.Path.{_≡_, ap}
-use mathlib.Core.Bool.{Bool}
+use mathlib.Core.Path.{_≡_, refl, ap, _∙_}
+use mathlib.Core.Bool.{Bool, true, false, _&&_}
+use mathlib.Core.List.{[]}
+use lib.ListN.{length}
+use lib.Dec.{leb}
 use Rattle.lists.specs.Choice.{pick}
 use Rattle.keys.specs.declared.Key.{Key}
 use Rattle.echo.specs.Taking.{takenUp}
-use Rattle.echo.specs.Control.{Echo, pressed, waits, tookOne}
+use Rattle.echo.specs.Control.{Echo, Echoed, waitRoom, isFull, queued, pressed, waits, tookOne}
+use Rattle.echo.specs.View.{queuedIfRoom, pressedIfRoom}
 
 pub pressed-by : (e : Echo) (k : Key) {b : Bool} → e .held ≡ b → pressed e k ≡ pick b (waits e k) (tookOne e k (takenUp (e .orders) (e .gathered) k))
 unfolding pressed
 pressed-by e k h = ap (λ (b : Bool). pick b (waits e k) (tookOne e k (takenUp (e .orders) (e .gathered) k))) h
+
+module _ (e : Echo) (k : Key) where
+  abbrev stays : Echo → Echoed
+  stays x = record { paper = []; wire = []; taken = []; echo = x }
+
+  if-full : (b : Bool) → e .held ≡ b → pressedIfRoom e k ≡ pick (b && leb waitRoom (length (e .waiting))) (stays e) (pressed e k)
+  unfolding isFull
+  if-full b h = ap (λ (x : Bool). pick (x && leb waitRoom (length (e .waiting))) (stays e) (pressed e k)) h
+
+  -- held, it waits if there is room
+  pub held-waits : e .held ≡ true → pressedIfRoom e k ≡ record { paper = []; wire = []; taken = []; echo = queuedIfRoom e k }
+  held-waits h =
+      if-full true h ∙ ap (λ (x : Echoed). pick (leb waitRoom (length (e .waiting))) (stays e) x) (pressed-by e k h) ∙ go (leb waitRoom (length (e .waiting)))
+    where
+      go : (b : Bool) → pick b (stays e) (waits e k) ≡ record { paper = []; wire = []; taken = []; echo = pick b e (queued e k) }
+      go true = refl
+      go false = refl
+
+  -- else it is taken up
+  pub free-takes : e .held ≡ false → pressedIfRoom e k ≡ tookOne e k (takenUp (e .orders) (e .gathered) k)
+  free-takes h = if-full false h ∙ pressed-by e k h

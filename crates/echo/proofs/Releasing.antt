@@ -53,7 +53,6 @@ begun o ks g paper wire = record {
 
 -- the loop was left with so many keys taken up
 pub record Gone (o : Orders) (ks : List Key) (g₀ : Gathered) (paper₀ wire₀ : List ℕ) (g : Gathered) (paper wire : List ℕ) (p w at : ℕ) (held : Bool) : Type 0 where
-  pub within : at ≤ length ks
   pub onPaper : Wrote (released o (bytesIn g₀) ks .paper) paper₀ paper p
   pub onWire : Wrote (released o (bytesIn g₀) ks .wire) wire₀ wire w
   pub echo : released o (bytesIn g₀) ks .echo ≡ record { held = held; orders = o; waiting = drop at ks; gathered = bytesIn g }
@@ -153,7 +152,6 @@ module _ {o : Orders} {ks : List Key} {g₀ : Gathered} {paper₀ wire₀ : List
       broken on =
           let b : takenUp o (bytesIn g) k .broke ≡ true = sym (m .broke) ∙ on in
           record {
-            within = omega arith;
             onPaper = all-filled (rw b at onP);
             onWire = all-filled (rw b at onW);
             echo = rw (m .gathered .bytes) (sym (rw (next, one-key o (bytesIn g) k (drop (i + 1) ks) b) at (so .echo)));
@@ -167,7 +165,6 @@ module _ {o : Orders} {ks : List Key} {g₀ : Gathered} {paper₀ wire₀ : List
       let d : drop i ks ≡ [] = drop-of-length-le ks {i = i} h in
       let n : drop (length ks) ks ≡ [] = drop-length ks in
       record {
-        within = omega arith;
         onPaper = all-filled (rw d at (so .onPaper));
         onWire = all-filled (rw d at (so .onWire));
         echo = rw n (sym (rw d at (so .echo)));

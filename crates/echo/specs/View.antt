@@ -2,13 +2,14 @@
 use mathlib.Core.Path.{_≡_}
 use mathlib.Core.List.{List, [], map}
 use Prim.Native.Nat.{ℕ, min}
-use lib.ListN.{take, getD}
+use lib.ListN.{length, take, getD}
+use lib.Dec.{leb}
 use Rattle.lists.specs.Buffers.{Wrote, Clean}
 use Rattle.keys.specs.declared.Key.{Key}
 use Rattle.keys.specs.Packing.{packed, unpacked}
 use Rattle.echo.specs.Taking.{Orders, gatherRoom}
 use Rattle.lists.specs.Choice.{pick}
-use Rattle.echo.specs.Control.{Echo, Echoed, waitRoom, started, isFull, pressed}
+use Rattle.echo.specs.Control.{Echo, Echoed, waitRoom, started, isFull, queued, pressed}
 use Rattle.echo.specs.declared.Echo.{Echo as EchoCells}
 use Rattle.echo.specs.declared.Echoed.{Echoed as EchoedCells}
 use Rattle.echo.specs.declared.Written.{Written}
@@ -60,5 +61,8 @@ pub record WroteBoth (onPaper onWire paper₀ paper₁ wire₀ wire₁ : List �
   pub wire : Wrote onWire wire₀ wire₁ (r .wire)
 
 -- a key that finds the queue full changes nothing
+abbrev pub queuedIfRoom : Echo → Key → Echo
+queuedIfRoom e k = pick (leb waitRoom (length (e .waiting))) e (queued e k)
+
 abbrev pub pressedIfRoom : Echo → Key → Echoed
 pressedIfRoom e k = pick (isFull e) (record { paper = []; wire = []; taken = []; echo = e }) (pressed e k)

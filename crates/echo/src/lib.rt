@@ -1,6 +1,4 @@
 // RCTE's control of the keyboard: the hold, the orders, what waits and what is gathered.
-ghost use mathlib.Core.Path.{_≡_};
-ghost use mathlib.Core.Bool.{false};
 ghost use Rattle.lists.specs.Buffers.{RoomFor};
 ghost use Rattle.echo.specs.Control as control;
 ghost use Rattle.echo.specs.View.{viewEcho, Begun, Kept, MetEchoed, pressedIfRoom};
@@ -109,12 +107,12 @@ pub fn holding(e: Echo) -> Echo
     held
 }
 
-// It waits where keys are held, and else is taken up at once.
-fn pressed_in_room(e: Echo, k: Key, paper: &mut [u8], wire: &mut [u8]) -> Echoed
-    requires { ⌜ control.isFull (viewEcho e) ≡ false ⌝ }
-    requires { ⌜ RoomFor (control.pressed (viewEcho e) k .paper) (now paper) ⌝ }
-    requires { ⌜ RoomFor (control.pressed (viewEcho e) k .wire) (now wire) ⌝ }
-    ensures { λ r. ⌜ MetEchoed (control.pressed (viewEcho e) k) e (now (paper .entry)) (now (paper .exit)) (now (wire .entry)) (now (wire .exit)) r ⌝ }
+// A key under RCTE waits where keys are held, and else is taken up at once. One that finds the queue full changes
+// nothing.
+pub fn pressed(e: Echo, k: Key, paper: &mut [u8], wire: &mut [u8]) -> Echoed
+    requires { ⌜ RoomFor (pressedIfRoom (viewEcho e) k .paper) (now paper) ⌝ }
+    requires { ⌜ RoomFor (pressedIfRoom (viewEcho e) k .wire) (now wire) ⌝ }
+    ensures { λ r. ⌜ MetEchoed (pressedIfRoom (viewEcho e) k) e (now (paper .entry)) (now (paper .exit)) (now (wire .entry)) (now (wire .exit)) r ⌝ }
 {
     if e.held {
         let more = waiting::queued(e, k);
@@ -134,22 +132,6 @@ fn pressed_in_room(e: Echo, k: Key, paper: &mut [u8], wire: &mut [u8]) -> Echoed
         wire: t.wire,
         echo,
     }
-}
-
-// A key under RCTE. One that finds the queue full changes nothing.
-pub fn pressed(e: Echo, k: Key, paper: &mut [u8], wire: &mut [u8]) -> Echoed
-    requires { ⌜ RoomFor (pressedIfRoom (viewEcho e) k .paper) (now paper) ⌝ }
-    requires { ⌜ RoomFor (pressedIfRoom (viewEcho e) k .wire) (now wire) ⌝ }
-    ensures { λ r. ⌜ MetEchoed (pressedIfRoom (viewEcho e) k) e (now (paper .entry)) (now (paper .exit)) (now (wire .entry)) (now (wire .exit)) r ⌝ }
-{
-    if waiting::is_full(e) {
-        return Echoed {
-            paper: 0,
-            wire: 0,
-            echo: e,
-        };
-    }
-    pressed_in_room(e, k, paper, wire)
 }
 
 // A command sets actions and classes, and then takes up what waits.

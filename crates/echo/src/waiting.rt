@@ -1,14 +1,14 @@
 // The keys that wait: one more of them, those left behind the first, and all of them taken up or sent.
 ghost use mathlib.Core.Path.{_≡_};
-ghost use Prim.Native.Nat.{_+_, _-_, _≤_, _<_, min};
+ghost use Prim.Native.Nat.{_+_, _-_, _≤_};
 ghost use mathlib.Core.List.{_++_};
-ghost use lib.ListN.{length, take, drop, replicate};
+ghost use lib.ListN.{take, drop, replicate};
 ghost use Rattle.lists.specs.Lists.{joined};
 ghost use Rattle.lists.specs.Buffers.{RoomFor};
 ghost use Rattle.keys.specs.Keys.{keyWire};
 ghost use Rattle.echo.specs.Taking.{sentPaper};
 ghost use Rattle.echo.specs.Control as control;
-ghost use Rattle.echo.specs.View.{waitingIn, viewEcho, Kept, MetEchoed, WroteBoth};
+ghost use Rattle.echo.specs.View.{waitingIn, viewEcho, queuedIfRoom, Kept, MetEchoed, WroteBoth};
 ghost use Rattle.echo.specs.Steps.{bytesIn, releasing, leftAt, Left};
 use crate::Echo;
 use crate::Echoed;
@@ -27,12 +27,14 @@ pub fn is_full(e: Echo) -> bool
     if e.held { WAIT_ROOM <= e.count } else { false }
 }
 
-// A key put behind those that wait.
+// A key put behind those that wait, if there is room.
 pub fn queued(e: Echo, k: Key) -> Echo
-    requires { ⌜ length (waitingIn e) < 256 ⌝ }
-    ensures { λ r. ⌜ Kept (control.queued (viewEcho e) k) e r ⌝ }
+    ensures { λ r. ⌜ Kept (queuedIfRoom (viewEcho e) k) e r ⌝ }
 {
-    let count = parts::capped(e.count, WAIT_ROOM);
+    let count = e.count;
+    if WAIT_ROOM <= count {
+        return e;
+    }
     let mut waiting = e.waiting;
     let packed = keys::pack(k);
     waiting[count] = packed;
@@ -58,12 +60,13 @@ fn keys_from(cells: [u16; WAIT_ROOM], taken: usize, count: usize) -> [u16; WAIT_
 
 // The state once so many of the waiting keys were taken up.
 pub fn left(e: Echo, g: Gathered, at: usize, held: bool) -> Echo
-    requires { ⌜ at ≤ min (e .count) 256 ⌝ }
     ensures { λ r. ⌜ Left (leftAt (viewEcho e) (bytesIn g) at held) g e r ⌝ }
 {
-    let count = parts::capped(e.count, WAIT_ROOM) - at;
+    let all = parts::capped(e.count, WAIT_ROOM);
+    let taken = parts::capped(at, all);
+    let count = all - taken;
     let cells = e.waiting;
-    let waiting = keys_from(cells, at, count);
+    let waiting = keys_from(cells, taken, count);
     let gathered = g.cells;
     let action = e.action;
     Echo {

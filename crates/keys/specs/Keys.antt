@@ -1,5 +1,5 @@
 -- Keys: their classes, their paper and their bytes on the wire.
-use mathlib.Core.Bool.{Bool, true, false, _||_, _&&_, not}
+use mathlib.Core.Bool.{Bool, true, false, _||_, not}
 use mathlib.Core.List.{List, [], _∷_}
 use Prim.Native.Nat.{ℕ, _-_, _/_, _%_, _^_}
 use lib.Dec.{leb, eqb}
@@ -46,9 +46,12 @@ isCommand (Char b) = false
 isCommand Line = false
 isCommand (Command c) = true
 
--- a class pair is one number, its high byte first, and bit k - 1 of it stands for class k
+-- a class pair is one number, its high byte first, and bit k - 1 of it stands for class k; there are nine classes
+abbrev pub classBit : ℕ → ℕ → ℕ
+classBit pair k = pick (between 1 9 k) (pair / 2 ^ (k - 1) % 2) 0
+
 unfoldable pub inClasses : ℕ → ℕ → Bool
-inClasses pair k = not (eqb k 0) && eqb (pair / 2 ^ (k - 1) % 2) 1
+inClasses pair k = eqb (classBit pair k) 1
 
 -- classes 1 to 4 and 6 to 9 print themselves
 unfoldable pub prints : ℕ → Bool

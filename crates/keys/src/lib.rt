@@ -1,8 +1,7 @@
 // A key of the printer end's keyboard, and an item of the bulletin end's text.
 ghost use mathlib.Core.Path.{_≡_};
-ghost use Prim.Native.Nat.{_≤_, _-_, _/_, _%_, _^_};
 ghost use Rattle.lists.specs.Buffers.{RoomFor, Wrote};
-ghost use Rattle.keys.specs.Keys.{classOf, keyClass, inClasses, isCommand, prints, keyPaper};
+ghost use Rattle.keys.specs.Keys.{classOf, keyClass, classBit, inClasses, isCommand, prints, keyPaper};
 ghost use Rattle.keys.specs.Packing.{packed, unpacked};
 
 // What Line and Char(13) are on the wire: CR LF and CR NUL.
@@ -56,10 +55,9 @@ pub fn is_command(k: Key) -> bool
     }
 }
 
-// The weight of a class's bit; there are nine classes.
+// The bit of one of the nine classes; another class has none.
 fn bit_of(pair: u16, class: u8) -> u16
-    requires { ⌜ (1 ≤ class) × (class ≤ 9) ⌝ }
-    ensures { λ r. ⌜ r ≡ pair / 2 ^ (class - 1) % 2 ⌝ }
+    ensures { λ r. ⌜ r ≡ classBit pair class ⌝ }
 {
     match class {
         1 => pair % 2,
@@ -70,17 +68,14 @@ fn bit_of(pair: u16, class: u8) -> u16
         6 => pair / 32 % 2,
         7 => pair / 64 % 2,
         8 => pair / 128 % 2,
-        _ => pair / 256 % 2,
+        9 => pair / 256 % 2,
+        _ => 0,
     }
 }
 
 pub fn in_classes(pair: u16, class: u8) -> bool
-    requires { ⌜ class ≤ 9 ⌝ }
     ensures { λ r. ⌜ r ≡ inClasses pair class ⌝ }
 {
-    if class == 0 {
-        return false;
-    }
     bit_of(pair, class) == 1
 }
 

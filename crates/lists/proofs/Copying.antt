@@ -1,7 +1,7 @@
 -- A part of a list, mapped or cut; a list copied to the start of a buffer, one element after the other.
 use mathlib.Core.Path.{_≡_, refl, sym}
 use mathlib.Core.List.{List, [], _∷_, map}
-use Prim.Native.Nat.{ℕ, zero, suc, _+_, _≤_, _<_}
+use Prim.Native.Nat.{ℕ, zero, suc, _+_, _≤_, _<_, min}
 use native.Mathlib.Numerals.{add-one}
 use native.Mathlib.Omega.{arith}
 use lib.ListN.{length, take, drop, set, getD, length-take}
@@ -13,6 +13,15 @@ pub map-drop : {X Y : Type 0} (f : X → Y) (n : ℕ) (xs : List X) → map f (d
 map-drop f zero xs = refl
 map-drop f (suc n) [] = refl
 map-drop f (suc n) (x ∷ xs) = map-drop f n xs
+
+-- past the end nothing more is dropped
+pub drop-capped : {X : Type 0} (m n : ℕ) (xs : List X) → m ≡ min n (length xs) → drop m xs ≡ drop n xs
+drop-capped zero zero xs e = refl
+drop-capped zero (suc n) [] e = refl
+drop-capped zero (suc n) (x ∷ xs) e = absurd (omega arith)
+drop-capped (suc m) zero xs e = absurd (omega arith)
+drop-capped (suc m) (suc n) [] e = refl
+drop-capped (suc m) (suc n) (x ∷ xs) e = drop-capped m n xs (omega arith)
 
 -- so many from a place on, cut the other way round
 pub cut-from : (l : List ℕ) (from n : ℕ) → from ≤ length l → take n (drop from l) ≡ drop from (take (from + n) l)

@@ -1,23 +1,35 @@
-use Rattle.lists.proofs.Starts.{wrote-none}
-use mathlib.Core.Path.{refl, sym, _∙_}
 use borrow.Author.Needs.{needs}
+use Rattle.lists.proofs.Starts.{wrote-none}
+use Rattle.echo.specs.View.{viewEcho}
+use Rattle.echo.proofs.Pressing.{held-waits, free-takes}
 use Rattle.echo.proofs.pressed.Statement.{statement}
 use Rattle.echo.proofs.pressed.Tie as tie
-use Rattle.echo.proofs.pressed.Reads as reads
-use Rattle.echo.proofs.pressed.Lts as lts
-use Rattle.echo.proofs.waiting.is_full.Reads as is-full-reads
-use Rattle.echo.proofs.pressed_in_room.Reads as pressed-in-room-reads
 
-is-full-requires : tie.Need-is-full-requires
-is-full-requires c κs = search needs
+queued-requires : tie.Need-queued-requires
+queued-requires c κs = search needs
 
 returns : tie.Need-returns
-returns c = rw (sym (c .before .is-full .ensures) ∙ c .if1 .taken) (record { paper = wrote-none _; wire = wrote-none _; echo = refl; clean = λ k. k })
+returns c =
+    let a = c .before .before .before .before .args in
+    let queue = c .queued .ensures in
+    rw (held-waits (viewEcho (a .e)) (a .k) (c .before .if1 .taken))
+    (record { paper = wrote-none _; wire = wrote-none _; echo = queue .echo; clean = queue .clean })
 
-pressed-in-room-requires : tie.Need-pressed-in-room-requires
-pressed-in-room-requires c κs =
-    let no-more = sym (c .before .before .before .is-full .ensures) ∙ c .before .before .if1 .left in
-    (no-more, rw no-more at (c .before .before .before .before .before .before .pre))
+orders-of-requires : tie.Need-orders-of-requires
+orders-of-requires c κs = search needs
+
+gathered-of-requires : tie.Need-gathered-of-requires
+gathered-of-requires c κs = search needs
+
+take-up-requires : tie.Need-take-up-requires
+take-up-requires c κs =
+    let start = c .before .before .before .before .before .before .before in
+    let rule = free-takes (viewEcho (start .args .e)) (start .args .k) (c .before .before .before .before .if1 .left) in
+    rw (c .before .before .before .orders-of .ensures, c .before .before .gathered-of .ensures)
+    (rw rule at (start .pre .0), rw rule at (start .pre .1))
+
+left-requires : tie.Need-left-requires
+left-requires c κs = search needs
 
 same-length : tie.Need-same-length
 same-length c = search needs
@@ -26,15 +38,29 @@ same-length-2 : tie.Need-same-length-2
 same-length-2 c = search needs
 
 returns-2 : tie.Need-returns-2
-returns-2 c = rw (sym (c .before .before .before .before .before .before .before .before .is-full .ensures) ∙ c .before .before .before .before .before .before .before .if1 .left) (c .before .before .before .before .pressed-in-room .ensures)
+returns-2 c =
+    let up = c .before .before .before .before .before .before in
+    let arg = up .before .before in
+    let start = arg .before .before .before .before .before .before in
+    let took = rw (arg .before .before .orders-of .ensures, arg .before .gathered-of .ensures) at (up .take-up .ensures) in
+    rw (free-takes (viewEcho (start .args .e)) (start .args .k) (arg .before .before .before .if1 .left))
+    (record {
+      paper = took .paper;
+      wire = took .wire;
+      echo = rw (← took .broke, ← took .gathered .bytes) (c .left .ensures .echo);
+      clean = λ h. c .left .ensures .clean (took .gathered .clean (h .gathered)) (h .numbers);
+    })
 
 pub pressed-spec : {M : Type 1} → statement M
 pressed-spec =
     tie.close
     (tie.spec
-    is-full-requires
+    queued-requires
     returns
-    pressed-in-room-requires
+    orders-of-requires
+    gathered-of-requires
+    take-up-requires
+    left-requires
     same-length
     same-length-2
     returns-2)

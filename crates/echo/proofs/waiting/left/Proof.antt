@@ -1,14 +1,19 @@
 use mathlib.Core.Path.{_≡_}
 use Prim.Native.Nat.{_+_, _-_, min}
 use native.Mathlib.Omega.{arith}
-use lib.ListN.{length}
+use lib.ListN.{length, drop}
 use borrow.Author.Needs.{needs}
-use Rattle.echo.proofs.Cells.{left-keys, left-clean, left-numbers}
+use Rattle.lists.proofs.Copying.{drop-capped}
+use Rattle.echo.specs.View.{waitingIn}
+use Rattle.echo.proofs.Cells.{count-of, left-keys, left-clean, left-numbers}
 use Rattle.echo.proofs.waiting.left.Statement.{statement}
 use Rattle.echo.proofs.waiting.left.Tie as tie
 
 capped-requires : tie.Need-capped-requires
 capped-requires c κs = search needs
+
+capped-requires-2 : tie.Need-capped-requires-2
+capped-requires-2 c κs = search needs
 
 sub-count : tie.Need-sub-count
 sub-count c = search needs
@@ -18,16 +23,19 @@ keys-from-requires c κs = search needs
 
 returns : tie.Need-returns
 returns c =
-    let start = c .before .before .before .before .before in
+    let start = c .before .before .before .before .before .before in
     let e = start .args .e in
     let l : length (e .waiting) ≡ 256 = search needs in
-    let m = c .before .before .before .before .capped .result - start .args .at in
-    let left : start .args .at + m ≡ min (e .count) 256 = omega (arith, c .before .before .before .before .capped .ensures, start .pre) in
+    let all = c .before .before .before .before .before .capped in
+    let taken = c .before .before .before .before .capped2 in
+    let m = all .result - taken .result in
+    let left : taken .result + m ≡ min (e .count) 256 = omega (arith, all .ensures, taken .ensures) in
+    let dropped : drop (taken .result) (waitingIn e) ≡ drop (start .args .at) (waitingIn e) = drop-capped (taken .result) (start .args .at) (waitingIn e) (omega (arith, count-of (e .waiting) (e .count) l, all .ensures, taken .ensures)) in
     rw (c .before .before .keys-from .ensures)
     (record {
-      echo = rw (left-keys (e .waiting) (e .count) l (start .args .at) m left);
-      clean = λ h k. record { numbers = left-numbers (e .waiting) (start .args .at) m k; waiting = left-clean (e .waiting) (e .count) l (start .args .at) m left; gathered = h };
+      echo = rw (left-keys (e .waiting) (e .count) l (taken .result) m left, dropped);
+      clean = λ h k. record { numbers = left-numbers (e .waiting) (taken .result) m k; waiting = left-clean (e .waiting) (e .count) l (taken .result) m left; gathered = h };
     })
 
 pub left-spec : {M : Type 1} → statement M
-left-spec = tie.close (tie.spec capped-requires sub-count keys-from-requires returns)
+left-spec = tie.close (tie.spec capped-requires capped-requires-2 sub-count keys-from-requires returns)

@@ -1,7 +1,9 @@
-use mathlib.Core.Path.{_≡_, _∙_, ap, sym}
-use Prim.Native.Nat.{_<_, min}
+use mathlib.Core.Path.{_≡_, refl, _∙_, ap, sym}
+use mathlib.Core.Bool.{true, false}
 use native.Mathlib.Omega.{arith}
 use lib.ListN.{length}
+use lib.Dec.{leb}
+use borrow.Author.Tests.{le-leb, lt-leb}
 use borrow.Author.Needs.{needs}
 use borrow.Fn.Kinds.{GoodsP}
 use Rattle.keys.specs.declared.Key.{Key}
@@ -9,13 +11,19 @@ use Rattle.keys.specs.declared.Key.the-variants.{Char, Line, Command}
 use Rattle.keys.specs.Packing.{packed, unpacked, ByteKey}
 use Rattle.keys.proofs.Packing.{unpacked-packed}
 use Rattle.echo.specs.declared.Echo.{Echo}
+use Rattle.echo.specs.View.{waitingIn}
 use Rattle.echo.proofs.Cells.{count-of, queued-keys, queued-clean, queued-numbers}
 use Rattle.echo.proofs.waiting.queued.Statement.{statement}
 use Rattle.echo.proofs.waiting.queued.Kinds as kinds
 use Rattle.echo.proofs.waiting.queued.Tie as tie
 
-capped-requires : tie.Need-capped-requires
-capped-requires c κs = search needs
+-- the queue is full
+returns : tie.Need-returns
+returns c =
+    let e = c .before .args .e in
+    let l : length (e .waiting) ≡ 256 = search needs in
+    let full : leb 256 (length (waitingIn e)) ≡ true = le-leb 256 (length (waitingIn e)) (omega (arith, count-of (e .waiting) (e .count) l, c .if1 .taken)) in
+    rw full (record { echo = refl; clean = λ k. k })
 
 pack-requires : tie.Need-pack-requires
 pack-requires c κs = search needs
@@ -23,14 +31,8 @@ pack-requires c κs = search needs
 mul-waiting : tie.Need-mul-waiting
 mul-waiting c = search needs
 
-free : (c : tie.Start) → min (c .args .e .count) 256 < 256
-free c =
-    let e = c .args .e in
-    let l : length (e .waiting) ≡ 256 = search needs in
-    omega (arith, count-of (e .waiting) (e .count) l, c .pre)
-
 array-write-waiting : tie.Need-array-write-waiting
-array-write-waiting c = omega (arith, free (c .before .before .before), c .before .before .capped .ensures)
+array-write-waiting c = search needs
 
 add-more : tie.Need-add-more
 add-more c = search needs
@@ -41,20 +43,22 @@ bytes e (Char b) g = omega arith
 bytes e Line g = tt
 bytes e (Command b) g = omega arith
 
-returns : tie.Need-returns
-returns c =
+returns-2 : tie.Need-returns-2
+returns-2 c =
     let start = c .before .before .before in
+    let free = c .before .before .if1 .left in
     let e = start .args .e in
     let k = start .args .k in
     let l : length (e .waiting) ≡ 256 = search needs in
+    let room : leb 256 (length (waitingIn e)) ≡ false = lt-leb 256 (length (waitingIn e)) (omega (arith, count-of (e .waiting) (e .count) l, free)) in
     let same : unpacked (c .pack .result) ≡ k = ap unpacked (c .pack .ensures) ∙ unpacked-packed k (bytes e k (start .good)) in
-    rw (c .before .before .capped .ensures)
+    rw room
     (record {
-      echo = rw (queued-keys (e .waiting) (e .count) l (c .pack .result) k (free start) same);
-      clean = λ h. record { waiting = queued-clean (e .waiting) (e .count) l (c .pack .result) (free start) (h .waiting); numbers = queued-numbers (e .waiting) (e .count) (c .pack .result) (ap packed same ∙ sym (c .pack .ensures)) (h .numbers); gathered = h .gathered };
+      echo = rw (queued-keys (e .waiting) (e .count) l (c .pack .result) k free same);
+      clean = λ h. record { waiting = queued-clean (e .waiting) (e .count) l (c .pack .result) free (h .waiting); numbers = queued-numbers (e .waiting) (e .count) (c .pack .result) (ap packed same ∙ sym (c .pack .ensures)) (h .numbers); gathered = h .gathered };
     })
 
 pub queued-spec : {M : Type 1} → statement M
 queued-spec =
     tie.close
-    (tie.spec capped-requires pack-requires mul-waiting array-write-waiting add-more returns)
+    (tie.spec returns pack-requires mul-waiting array-write-waiting add-more returns-2)

@@ -182,7 +182,7 @@ enum-told : tie.Need-enum-told Inv-loop μ-loop
 enum-told c = search needs
 
 left-requires : tie.Need-left-requires Inv-loop μ-loop
-left-requires c κs = omega (arith, c .before .before .before .before .before .before .before .capped .ensures)
+left-requires c κs = search needs
 
 enum-known-stop : tie.Need-enum-known-stop Inv-loop μ-loop
 enum-known-stop c = search needs
@@ -205,7 +205,7 @@ count-here : (s : tie.Start Inv-loop μ-loop) → length (waitingIn (s .args .e)
 count-here s = count-of (s .args .e .waiting) (s .args .e .count) (cells-long s)
 
 left-requires-2 : tie.Need-left-requires-2 Inv-loop μ-loop
-left-requires-2 c κs = omega (arith, at-ended c .within, count-here (entry (c .before .before .before .before)))
+left-requires-2 c κs = search needs
 
 same-length : tie.Need-same-length Inv-loop μ-loop
 same-length c = same-long (all-ended (c .before) .onPaper) (entry (c .before .before .before .before) .pre .0)
