@@ -45,10 +45,9 @@ pub fn declined(enable: bool) -> Reply
     ensures { λ r. ⌜ r ≡ declined enable ⌝ }
 {
     if enable {
-        Reply::Negative
-    } else {
-        Reply::Silent
+        return Reply::Negative;
     }
+    Reply::Silent
 }
 
 // The verb of a reply or a request about that side.
