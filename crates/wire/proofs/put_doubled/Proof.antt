@@ -51,16 +51,28 @@ shared-slice-read-b : tie.Need-shared-slice-read-b Inv-loop μ-loop
 shared-slice-read-b c = search needs
 
 sub-put-coded : tie.Need-sub-put-coded Inv-loop μ-loop
-sub-put-coded c = omega (arith, within (c .before .before .before .before .before .args .body .now) (c .before .before .before .before .before .args .out .now) (c .before .before .before .before .before .pre) (c .before .before .loop .out) (c .before .before .loop .i) (c .before .before .loop .n) (c .before .before .loop .inv .1))
+sub-put-coded c =
+    let start = c .before .before .before .before .before in
+    let a = start .args in
+    let loop = c .before .before .loop in
+    omega (arith, within (a .body .now) (a .out .now) (start .pre) (loop .out) (loop .i) (loop .n) (loop .inv .1))
 
 part-put-coded-start : tie.Need-part-put-coded-start Inv-loop μ-loop
-part-put-coded-start c = omega (arith, within (c .before .before .before .before .before .args .body .now) (c .before .before .before .before .before .args .out .now) (c .before .before .before .before .before .pre) (c .before .before .loop .out) (c .before .before .loop .i) (c .before .before .loop .n) (c .before .before .loop .inv .1))
+part-put-coded-start c =
+    let start = c .before .before .before .before .before in
+    let a = start .args in
+    let loop = c .before .before .loop in
+    omega (arith, within (a .body .now) (a .out .now) (start .pre) (loop .out) (loop .i) (loop .n) (loop .inv .1))
 
 part-put-coded-end : tie.Need-part-put-coded-end Inv-loop μ-loop
 part-put-coded-end c = search needs
 
 put-coded-requires : tie.Need-put-coded-requires Inv-loop μ-loop
-put-coded-requires c κs = room-next (c .before .before .before .before .before .before .args .body .now) (c .before .before .before .before .before .before .args .out .now) (c .before .before .before .before .before .before .pre) (c .before .before .before .loop .out) (c .before .before .before .loop .i) (c .before .before .before .loop .n) (c .before .before .loop-test .taken) (c .before .before .before .loop .inv .1)
+put-coded-requires c κs =
+    let start = c .before .before .before .before .before .before in
+    let a = start .args in
+    let loop = c .before .before .before .loop in
+    room-next (a .body .now) (a .out .now) (start .pre) (loop .out) (loop .i) (loop .n) (c .before .before .loop-test .taken) (loop .inv .1)
 
 add-n : tie.Need-add-n Inv-loop μ-loop
 add-n c =
@@ -74,7 +86,13 @@ loop-less : tie.Need-loop-less Inv-loop μ-loop
 loop-less c = search needs
 
 loop-again : tie.Need-loop-again Inv-loop μ-loop
-loop-again c = (omega arith, turn (c .before .before .before .before .before .before .before .before .before .args .body .now) (c .before .before .before .before .before .before .before .before .before .args .out .now) (c .before .before .before .before .before .before .before .before .before .pre) (c .before .before .before .before .before .before .loop .out) (c .before .before .before .before .before .before .loop .i) (c .before .before .before .before .before .before .loop .n) (c .before .before .before .before .before .loop-test .taken) (c .before .before .before .before .before .before .loop .inv .1) (c .before .before .put-coded .last .1 .0) (c .before .before .put-coded .result) (c .before .before .put-coded .ensures))
+loop-again c =
+    let start = c .before .before .before .before .before .before .before .before .before in
+    let a = start .args in
+    let loop = c .before .before .before .before .before .before .loop in
+    let loop-test = c .before .before .before .before .before .loop-test in
+    let put-coded = c .before .before .put-coded in
+    (omega arith, turn (a .body .now) (a .out .now) (start .pre) (loop .out) (loop .i) (loop .n) (loop-test .taken) (loop .inv .1) (put-coded .last .1 .0) (put-coded .result) (put-coded .ensures))
 
 same-length : tie.Need-same-length Inv-loop μ-loop
 same-length c = same-long (c .before .loop .inv .1) (room-begin (c .before .before .before .before .args .body .now) (c .before .before .before .before .args .out .now) (c .before .before .before .before .pre) (c .before .loop .i))

@@ -91,31 +91,59 @@ put-doubled-requires c κs = room-body (c .before .before .before .args .body .n
 
 add-at : tie.Need-add-at
 unfolding opened
-add-at c = omega (arith, spare (c .before .before .before .before .before .before .args .body .now) (c .before .before .before .before .before .before .args .out .now) (c .before .before .before .before .before .before .pre) (c .before .before .put-doubled .last .1 .0) (c .before .before .put-doubled .result) (c .before .before .put-doubled .ensures), c .before .before .before .before .before .before .good .1 .0 .0)
+add-at c =
+    let start = c .before .before .before .before .before .before in
+    let a = start .args in
+    let put-doubled = c .before .before .put-doubled in
+    omega (arith, spare (a .body .now) (a .out .now) (start .pre) (put-doubled .last .1 .0) (put-doubled .result) (put-doubled .ensures), start .good .1 .0 .0)
 
 slice-write-out-3 : tie.Need-slice-write-out-3
 unfolding opened filled
-slice-write-out-3 c = omega (arith, spare (c .before .before .before .before .before .before .args .body .now) (c .before .before .before .before .before .before .args .out .now) (c .before .before .before .before .before .before .pre) (c .before .before .put-doubled .last .1 .0) (c .before .before .put-doubled .result) (c .before .before .put-doubled .ensures), long (c .before .before .before .before .before .before .args .body .now) (c .before .before .before .before .before .before .args .out .now) (c .before .before .before .before .before .before .pre) (c .before .before .put-doubled .last .1 .0) (c .before .before .put-doubled .result) (c .before .before .put-doubled .ensures))
+slice-write-out-3 c =
+    let start = c .before .before .before .before .before .before in
+    let a = start .args in
+    let put-doubled = c .before .before .put-doubled in
+    omega (arith, spare (a .body .now) (a .out .now) (start .pre) (put-doubled .last .1 .0) (put-doubled .result) (put-doubled .ensures), long (a .body .now) (a .out .now) (start .pre) (put-doubled .last .1 .0) (put-doubled .result) (put-doubled .ensures))
 
 add-out : tie.Need-add-out
 unfolding opened
-add-out c = omega (arith, spare (c .before .before .before .before .before .before .args .body .now) (c .before .before .before .before .before .before .args .out .now) (c .before .before .before .before .before .before .pre) (c .before .before .put-doubled .last .1 .0) (c .before .before .put-doubled .result) (c .before .before .put-doubled .ensures), c .before .before .before .before .before .before .good .1 .0 .0)
+add-out c =
+    let start = c .before .before .before .before .before .before in
+    let a = start .args in
+    let put-doubled = c .before .before .put-doubled in
+    omega (arith, spare (a .body .now) (a .out .now) (start .pre) (put-doubled .last .1 .0) (put-doubled .result) (put-doubled .ensures), start .good .1 .0 .0)
 
 slice-write-out-4 : tie.Need-slice-write-out-4
 unfolding opened filled
-slice-write-out-4 c = room-last (c .before .before .before .before .before .before .args .body .now) (c .before .before .before .before .before .before .args .out .now) (c .before .before .before .before .before .before .pre) (c .before .before .put-doubled .last .1 .0) (c .before .before .put-doubled .result) (c .before .before .put-doubled .ensures)
+slice-write-out-4 c =
+    let start = c .before .before .before .before .before .before in
+    let a = start .args in
+    let put-doubled = c .before .before .put-doubled in
+    room-last (a .body .now) (a .out .now) (start .pre) (put-doubled .last .1 .0) (put-doubled .result) (put-doubled .ensures)
 
 add-result : tie.Need-add-result
 unfolding opened
-add-result c = omega (arith, spare (c .before .before .before .before .before .before .args .body .now) (c .before .before .before .before .before .before .args .out .now) (c .before .before .before .before .before .before .pre) (c .before .before .put-doubled .last .1 .0) (c .before .before .put-doubled .result) (c .before .before .put-doubled .ensures), c .before .before .before .before .before .before .good .1 .0 .0)
+add-result c =
+    let start = c .before .before .before .before .before .before in
+    let a = start .args in
+    let put-doubled = c .before .before .put-doubled in
+    omega (arith, spare (a .body .now) (a .out .now) (start .pre) (put-doubled .last .1 .0) (put-doubled .result) (put-doubled .ensures), start .good .1 .0 .0)
 
 same-length : tie.Need-same-length
 unfolding opened filled
-same-length c = same (c .before .before .before .before .before .before .args .body .now) (c .before .before .before .before .before .before .args .out .now) (c .before .before .before .before .before .before .pre) (c .before .before .put-doubled .last .1 .0) (c .before .before .put-doubled .result) (c .before .before .put-doubled .ensures)
+same-length c =
+    let start = c .before .before .before .before .before .before in
+    let a = start .args in
+    let put-doubled = c .before .before .put-doubled in
+    same (a .body .now) (a .out .now) (start .pre) (put-doubled .last .1 .0) (put-doubled .result) (put-doubled .ensures)
 
 returns : tie.Need-returns
 unfolding opened filled
-returns c = closed-wrote (c .before .before .before .before .before .before .args .body .now) (c .before .before .before .before .before .before .args .out .now) (c .before .before .before .before .before .before .pre) (c .before .before .put-doubled .last .1 .0) (c .before .before .put-doubled .result) (c .before .before .put-doubled .ensures)
+returns c =
+    let start = c .before .before .before .before .before .before in
+    let a = start .args in
+    let put-doubled = c .before .before .put-doubled in
+    closed-wrote (a .body .now) (a .out .now) (start .pre) (put-doubled .last .1 .0) (put-doubled .result) (put-doubled .ensures)
 
 pub put-frame-spec : {M : Type 1} → statement M
 put-frame-spec =

@@ -15,7 +15,10 @@ idle-requires c κs = search needs
 
 -- src/body.rt:178:5
 kept-read-requires : tie.Need-kept-read-requires
-kept-read-requires c κs = rw (body-end (viewPrinter (c .before .before .before .before .before .before .args .s)) (viewReader (c .before .before .idle .result)) (c .before .before .idle .ensures .view)) at (c .before .before .before .before .before .before .pre)
+kept-read-requires c κs =
+    let start = c .before .before .before .before .before .before in
+    let idle = c .before .before .idle in
+    rw (body-end (viewPrinter (start .args .s)) (viewReader (idle .result)) (idle .ensures .view)) at (start .pre)
 
 -- src/body.rt:169:1
 same-length : tie.Need-same-length

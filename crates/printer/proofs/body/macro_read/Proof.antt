@@ -40,11 +40,15 @@ enum-known-command-2 c = search needs
 
 -- src/body.rt:112:54
 sub-define-read : tie.Need-sub-define-read
-sub-define-read c = omega (arith, readable-long _ _ (sym (c .before .before .before .before .before .before .macro-body .ensures) ∙ c .before .before .before .before .command .given .1 ∙ ap (λ (x : MacroCommand). MacroBody.Readable x) (c .before .command2 .given .1)))
+sub-define-read c =
+    let macro-body = c .before .before .before .before .before .before .macro-body in
+    omega (arith, readable-long _ _ (sym (macro-body .ensures) ∙ c .before .before .before .before .command .given .1 ∙ ap (λ (x : MacroCommand). MacroBody.Readable x) (c .before .command2 .given .1)))
 
 -- src/body.rt:112:54
 part-define-read-start : tie.Need-part-define-read-start
-part-define-read-start c = omega (arith, readable-long _ _ (sym (c .before .before .before .before .before .before .macro-body .ensures) ∙ c .before .before .before .before .command .given .1 ∙ ap (λ (x : MacroCommand). MacroBody.Readable x) (c .before .command2 .given .1)))
+part-define-read-start c =
+    let macro-body = c .before .before .before .before .before .before .macro-body in
+    omega (arith, readable-long _ _ (sym (macro-body .ensures) ∙ c .before .before .before .before .command .given .1 ∙ ap (λ (x : MacroCommand). MacroBody.Readable x) (c .before .command2 .given .1)))
 
 -- src/body.rt:112:54
 part-define-read-end : tie.Need-part-define-read-end
@@ -52,7 +56,11 @@ part-define-read-end c = search needs
 
 -- src/body.rt:112:36
 define-read-requires : tie.Need-define-read-requires
-define-read-requires c κs = rw (rest-all (c .before .before .before .before .before .before .before .before .before .before .before .before .args .body .now) 3) (rw (sym (c .before .before .before .before .before .before .before .before .macro-body .ensures) ∙ c .before .before .before .before .before .before .command .given .1 ∙ ap (λ (x : MacroCommand). MacroBody.Readable x) (c .before .before .before .command2 .given .1)) at (c .before .before .before .before .before .before .before .before .before .before .before .before .pre .1))
+define-read-requires c κs =
+    let start = c .before .before .before .before .before .before .before .before .before .before .before .before in
+    let macro-body = c .before .before .before .before .before .before .before .before .macro-body in
+    let command = c .before .before .before .before .before .before .command in
+    rw (rest-all (start .args .body .now) 3) (rw (sym (macro-body .ensures) ∙ command .given .1 ∙ ap (λ (x : MacroCommand). MacroBody.Readable x) (c .before .before .before .command2 .given .1)) at (start .pre .1))
 
 -- src/body.rt:113:31
 enum-known-command-3 : tie.Need-enum-known-command-3
@@ -60,7 +68,11 @@ enum-known-command-3 c = search needs
 
 -- src/body.rt:113:37
 data-read-requires : tie.Need-data-read-requires
-data-read-requires c κs = rw (sym (c .before .before .before .before .before .before .before .macro-body .ensures) ∙ c .before .before .before .before .before .command .given .1 ∙ ap (λ (x : MacroCommand). MacroBody.Readable x) (c .before .before .command3 .given .1)) at (c .before .before .before .before .before .before .before .before .before .before .before .pre .0)
+data-read-requires c κs =
+    let start = c .before .before .before .before .before .before .before .before .before .before .before in
+    let macro-body = c .before .before .before .before .before .before .before .macro-body in
+    let command = c .before .before .before .before .before .command in
+    rw (sym (macro-body .ensures) ∙ command .given .1 ∙ ap (λ (x : MacroCommand). MacroBody.Readable x) (c .before .before .command3 .given .1)) at (start .pre .0)
 
 -- src/body.rt:103:1
 same-length : tie.Need-same-length
@@ -68,7 +80,12 @@ same-length c = search needs
 
 -- src/body.rt:103:1
 returns-2 : tie.Need-returns-2
-returns-2 c = rw (sym (c .before .before .before .before .before .before .before .before .before .before .before .macro-body .ensures) ∙ c .before .before .before .before .before .before .before .before .before .command .given .1 ∙ ap (λ (x : MacroCommand). MacroBody.Readable x) (c .before .before .before .before .before .before .command2 .given .1)) (rw (rest-all (c .before .before .before .before .before .before .before .before .before .before .before .before .before .before .before .args .body .now) 3) at (c .before .before .define-read .ensures) .met _)
+returns-2 c =
+    let start = c .before .before .before .before .before .before .before .before .before .before .before .before .before .before .before in
+    let macro-body = c .before .before .before .before .before .before .before .before .before .before .before .macro-body in
+    let command = c .before .before .before .before .before .before .before .before .before .command in
+    let command2 = c .before .before .before .before .before .before .command2 in
+    rw (sym (macro-body .ensures) ∙ command .given .1 ∙ ap (λ (x : MacroCommand). MacroBody.Readable x) (command2 .given .1)) (rw (rest-all (start .args .body .now) 3) at (c .before .before .define-read .ensures) .met _)
 
 -- src/body.rt:103:1
 same-length-2 : tie.Need-same-length-2
@@ -76,7 +93,11 @@ same-length-2 c = search needs
 
 -- src/body.rt:103:1
 returns-3 : tie.Need-returns-3
-returns-3 c = rw (sym (c .before .before .before .before .before .before .before .before .before .before .macro-body .ensures) ∙ c .before .before .before .before .before .before .before .before .command .given .1 ∙ ap (λ (x : MacroCommand). MacroBody.Readable x) (c .before .before .before .before .before .command3 .given .1)) (c .before .before .data-read .ensures .met _)
+returns-3 c =
+    let macro-body = c .before .before .before .before .before .before .before .before .before .before .macro-body in
+    let command = c .before .before .before .before .before .before .before .before .command in
+    let command3 = c .before .before .before .before .before .command3 in
+    rw (sym (macro-body .ensures) ∙ command .given .1 ∙ ap (λ (x : MacroCommand). MacroBody.Readable x) (command3 .given .1)) (c .before .before .data-read .ensures .met _)
 
 pub macro-read-spec : {M : Type 1} → statement M
 macro-read-spec =

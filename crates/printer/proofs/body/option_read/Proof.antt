@@ -26,7 +26,9 @@ rcte-requires c κs = search needs
 -- src/body.rt:129:17
 rcte-read-requires : tie.Need-rcte-read-requires
 unfolding optionRead
-rcte-read-requires c κs = rw (c .before .before .before .before .match .keys1, sym (c .before .before .before .rcte .ensures) ∙ c .before .before .if1 .taken) at (c .before .before .before .before .before .before .before .before .before .before .pre .1)
+rcte-read-requires c κs =
+    let start = c .before .before .before .before .before .before .before .before .before .before in
+    rw (c .before .before .before .before .match .keys1, sym (c .before .before .before .rcte .ensures) ∙ c .before .before .if1 .taken) at (start .pre .1)
 
 -- src/body.rt:129:17
 same-length : tie.Need-same-length
@@ -39,7 +41,11 @@ same-length-2 c = search needs
 -- src/body.rt:129:17
 returns : tie.Need-returns
 unfolding optionRead
-returns c = rw (c .before .before .before .before .before .before .before .before .before .match .keys1, sym (c .before .before .before .before .before .before .before .before .rcte .ensures) ∙ c .before .before .before .before .before .before .before .if1 .taken) (c .before .before .before .before .rcte-read .ensures)
+returns c =
+    let match = c .before .before .before .before .before .before .before .before .before .match in
+    let rcte = c .before .before .before .before .before .before .before .before .rcte in
+    let if1 = c .before .before .before .before .before .before .before .if1 in
+    rw (match .keys1, sym (rcte .ensures) ∙ if1 .taken) (c .before .before .before .before .rcte-read .ensures)
 
 -- src/body.rt:131:13
 quiet-requires : tie.Need-quiet-requires
@@ -69,7 +75,9 @@ macros-requires c κs = search needs
 -- src/body.rt:141:17
 macro-read-requires : tie.Need-macro-read-requires
 unfolding optionRead
-macro-read-requires c κs = rw (c .before .before .before .before .match .keys3, sym (c .before .before .before .macros .ensures) ∙ c .before .before .if3 .taken) at (c .before .before .before .before .before .before .before .before .before .before .pre .1)
+macro-read-requires c κs =
+    let start = c .before .before .before .before .before .before .before .before .before .before in
+    rw (c .before .before .before .before .match .keys3, sym (c .before .before .before .macros .ensures) ∙ c .before .before .if3 .taken) at (start .pre .1)
 
 -- src/body.rt:141:17
 same-length-3 : tie.Need-same-length-3
@@ -82,7 +90,11 @@ same-length-4 c = search needs
 -- src/body.rt:141:17
 returns-3 : tie.Need-returns-3
 unfolding optionRead
-returns-3 c = rw (c .before .before .before .before .before .before .before .before .before .match .keys3, sym (c .before .before .before .before .before .before .before .before .macros .ensures) ∙ c .before .before .before .before .before .before .before .if3 .taken) (c .before .before .before .before .macro-read .ensures)
+returns-3 c =
+    let match = c .before .before .before .before .before .before .before .before .before .match in
+    let macros = c .before .before .before .before .before .before .before .before .macros in
+    let if3 = c .before .before .before .before .before .before .before .if3 in
+    rw (match .keys3, sym (macros .ensures) ∙ if3 .taken) (c .before .before .before .before .macro-read .ensures)
 
 -- src/body.rt:143:13
 quiet-requires-3 : tie.Need-quiet-requires-3

@@ -31,7 +31,10 @@ returns c = rw (sym (c .before .before .before .rcte-body .ensures) ∙ c .befor
 
 -- src/body.rt:36:9
 commanded-requires : tie.Need-commanded-requires
-commanded-requires c κs = rw (sym (c .before .before .before .before .before .before .rcte-body .ensures) ∙ c .before .before .before .before .command .given .1) at (c .before .before .before .before .before .before .before .before .before .before .pre)
+commanded-requires c κs =
+    let start = c .before .before .before .before .before .before .before .before .before .before in
+    let rcte-body = c .before .before .before .before .before .before .rcte-body in
+    rw (sym (rcte-body .ensures) ∙ c .before .before .before .before .command .given .1) at (start .pre)
 
 -- src/body.rt:27:1
 same-length : tie.Need-same-length

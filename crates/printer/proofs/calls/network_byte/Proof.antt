@@ -73,7 +73,12 @@ same-length-3 c = search needs
 
 returns-3 : tie.Need-returns-3
 unfolding networkCall guarded
-returns-3 c = rw (sym (c .before .before .before .before .before .before .before .before .before .before .before .before .before .no-room .ensures) ∙ c .before .before .before .before .before .before .before .before .before .before .before .before .if1 .left, c .done .ensures .0) (met-done (c .before .before .before .before .before .network-read .ensures) (c .done .ensures .1))
+returns-3 c =
+    let no-room = c .before .before .before .before .before .before .before .before .before .before .before .before .before .no-room in
+    let if1 = c .before .before .before .before .before .before .before .before .before .before .before .before .if1 in
+    let network-read = c .before .before .before .before .before .network-read in
+    let done = c .done in
+    rw (sym (no-room .ensures) ∙ if1 .left, done .ensures .0) (met-done (network-read .ensures) (done .ensures .1))
 
 pub network-byte-spec : {M : Type 1} → statement M
 network-byte-spec =

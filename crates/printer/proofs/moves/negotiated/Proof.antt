@@ -42,7 +42,14 @@ hear-requires c κs = search needs
 -- src/moves.rt:167:9
 replied-requires : tie.Need-replied-requires
 unfolding negotiationRead sideHeard heardBy
-replied-requires c κs = rw (← c .before .before .before .before .before .before .before .before .before .before .whose-of .ensures, ← c .before .before .before .before .before .before .before .before .before .enables .ensures, ← c .before .before .before .before .before .before .before .before .printer-side .ensures, sym (c .before .before .before .before .before .before .is-carried .ensures) ∙ c .before .before .before .before .before .if1 .taken, ← c .before .before .before .before .free .ensures, ← c .before .before .before .standing-of .ensures, ← c .before .before .hear .ensures) at (c .before .before .before .before .before .before .before .before .before .before .before .before .before .pre)
+replied-requires c κs =
+    let start = c .before .before .before .before .before .before .before .before .before .before .before .before .before in
+    let whose-of = c .before .before .before .before .before .before .before .before .before .before .whose-of in
+    let enables = c .before .before .before .before .before .before .before .before .before .enables in
+    let printer-side = c .before .before .before .before .before .before .before .before .printer-side in
+    let is-carried = c .before .before .before .before .before .before .is-carried in
+    let if1 = c .before .before .before .before .before .if1 in
+    rw (← whose-of .ensures, ← enables .ensures, ← printer-side .ensures, sym (is-carried .ensures) ∙ if1 .taken, ← c .before .before .before .before .free .ensures, ← c .before .before .before .standing-of .ensures, ← c .before .before .hear .ensures) at (start .pre)
 
 -- src/moves.rt:167:9
 same-length : tie.Need-same-length
@@ -55,7 +62,16 @@ same-length-2 c = search needs
 -- src/moves.rt:167:9
 returns : tie.Need-returns
 unfolding negotiationRead sideHeard heardBy
-returns c = rw (← c .before .before .before .before .before .before .before .before .before .before .before .before .before .before .before .whose-of .ensures, ← c .before .before .before .before .before .before .before .before .before .before .before .before .before .before .enables .ensures, ← c .before .before .before .before .before .before .before .before .before .before .before .before .before .printer-side .ensures, sym (c .before .before .before .before .before .before .before .before .before .before .before .is-carried .ensures) ∙ c .before .before .before .before .before .before .before .before .before .before .if1 .taken, ← c .before .before .before .before .before .before .before .before .before .free .ensures, ← c .before .before .before .before .before .before .before .before .standing-of .ensures, ← c .before .before .before .before .before .before .before .hear .ensures) (c .before .before .before .before .replied .ensures)
+returns c =
+    let whose-of = c .before .before .before .before .before .before .before .before .before .before .before .before .before .before .before .whose-of in
+    let enables = c .before .before .before .before .before .before .before .before .before .before .before .before .before .before .enables in
+    let printer-side = c .before .before .before .before .before .before .before .before .before .before .before .before .before .printer-side in
+    let is-carried = c .before .before .before .before .before .before .before .before .before .before .before .is-carried in
+    let if1 = c .before .before .before .before .before .before .before .before .before .before .if1 in
+    let free = c .before .before .before .before .before .before .before .before .before .free in
+    let standing-of = c .before .before .before .before .before .before .before .before .standing-of in
+    let hear = c .before .before .before .before .before .before .before .hear in
+    rw (← whose-of .ensures, ← enables .ensures, ← printer-side .ensures, sym (is-carried .ensures) ∙ if1 .taken, ← free .ensures, ← standing-of .ensures, ← hear .ensures) (c .before .before .before .before .replied .ensures)
 
 -- src/moves.rt:169:9
 declined-requires : tie.Need-declined-requires
@@ -64,7 +80,12 @@ declined-requires c κs = search needs
 -- src/moves.rt:170:9
 put-reply-requires : tie.Need-put-reply-requires
 unfolding negotiationRead sideHeard heardBy
-put-reply-requires c κs = rw (← c .before .before .before .before .before .before .before .whose-of .ensures, ← c .before .before .before .before .before .before .enables .ensures, ← c .before .before .before .before .before .printer-side .ensures, sym (c .before .before .before .is-carried .ensures) ∙ c .before .before .if1 .left, ← c .before .declined .ensures) at (c .before .before .before .before .before .before .before .before .before .before .pre .1)
+put-reply-requires c κs =
+    let start = c .before .before .before .before .before .before .before .before .before .before in
+    let whose-of = c .before .before .before .before .before .before .before .whose-of in
+    let enables = c .before .before .before .before .before .before .enables in
+    let printer-side = c .before .before .before .before .before .printer-side in
+    rw (← whose-of .ensures, ← enables .ensures, ← printer-side .ensures, sym (c .before .before .before .is-carried .ensures) ∙ c .before .before .if1 .left, ← c .before .declined .ensures) at (start .pre .1)
 
 -- src/moves.rt:152:1
 same-length-3 : tie.Need-same-length-3
@@ -74,7 +95,12 @@ same-length-3 c = search needs
 returns-2 : tie.Need-returns-2
 unfolding negotiationRead sideHeard heardBy
 returns-2 c =
-    rw (← c .before .before .before .before .before .before .before .before .before .before .whose-of .ensures, ← c .before .before .before .before .before .before .before .before .before .enables .ensures, ← c .before .before .before .before .before .before .before .before .printer-side .ensures, sym (c .before .before .before .before .before .before .is-carried .ensures) ∙ c .before .before .before .before .before .if1 .left, ← c .before .before .before .before .declined .ensures)
+    let whose-of = c .before .before .before .before .before .before .before .before .before .before .whose-of in
+    let enables = c .before .before .before .before .before .before .before .before .before .enables in
+    let printer-side = c .before .before .before .before .before .before .before .before .printer-side in
+    let is-carried = c .before .before .before .before .before .before .is-carried in
+    let if1 = c .before .before .before .before .before .if1 in
+    rw (← whose-of .ensures, ← enables .ensures, ← printer-side .ensures, sym (is-carried .ensures) ∙ if1 .left, ← c .before .before .before .before .declined .ensures)
     (record {
       note = refl;
       wrote = record { paper = wrote-none _; wire = c .before .before .put-reply .ensures };

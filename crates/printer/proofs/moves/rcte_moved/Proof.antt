@@ -33,7 +33,8 @@ quiet-requires c κs = search needs
 returns : tie.Need-returns
 unfolding sideMoved
 returns c =
-    rw (sym (c .before .before .before .before .before .rcte .ensures) ∙ c .before .if2 .taken, sym (c .before .before .before .before .is-yes .ensures) ∙ c .before .before .if1 .taken, c .quiet .ensures, c .before .before .before .moved .ensures)
+    let rcte = c .before .before .before .before .before .rcte in
+    rw (sym (rcte .ensures) ∙ c .before .if2 .taken, sym (c .before .before .before .before .is-yes .ensures) ∙ c .before .before .if1 .taken, c .quiet .ensures, c .before .before .before .moved .ensures)
     (met-still _ _ _ (record { view = refl; clean = λ k. record { reader = k .reader; table = k .table; echo = k .echo } }) _ _)
 
 -- src/moves.rt:71:13
@@ -54,7 +55,13 @@ returns-2 c =
 
 -- src/moves.rt:76:9
 rcte-ended-requires : tie.Need-rcte-ended-requires
-rcte-ended-requires c κs = rw (rcte-ends (viewPrinter (c .before .before .before .before .before .before .before .before .before .before .args .s)) (c .before .before .before .before .before .before .before .before .before .before .args .q) (c .before .before .before .before .moved .result) (sym (c .before .before .before .before .before .before .rcte .ensures) ∙ c .before .before .if3 .taken) (sym (c .before .before .before .before .before .is-yes .ensures) ∙ c .before .before .before .if1 .left) (c .before .before .before .before .moved .ensures)) at (c .before .before .before .before .before .before .before .before .before .before .pre)
+rcte-ended-requires c κs =
+    let start = c .before .before .before .before .before .before .before .before .before .before in
+    let a = start .args in
+    let rcte = c .before .before .before .before .before .before .rcte in
+    let is-yes = c .before .before .before .before .before .is-yes in
+    let moved = c .before .before .before .before .moved in
+    rw (rcte-ends (viewPrinter (a .s)) (a .q) (moved .result) (sym (rcte .ensures) ∙ c .before .before .if3 .taken) (sym (is-yes .ensures) ∙ c .before .before .before .if1 .left) (moved .ensures)) at (start .pre)
 
 -- src/moves.rt:76:9
 same-length : tie.Need-same-length
@@ -79,7 +86,8 @@ quiet-requires-3 c κs = search needs
 returns-4 : tie.Need-returns-4
 unfolding sideMoved
 returns-4 c =
-    rw (sym (c .before .before .before .before .before .rcte .ensures) ∙ c .before .if3 .left, sym (c .before .before .before .before .is-yes .ensures) ∙ c .before .before .if1 .left, c .quiet3 .ensures, c .before .before .before .moved .ensures)
+    let rcte = c .before .before .before .before .before .rcte in
+    rw (sym (rcte .ensures) ∙ c .before .if3 .left, sym (c .before .before .before .before .is-yes .ensures) ∙ c .before .before .if1 .left, c .quiet3 .ensures, c .before .before .before .moved .ensures)
     (met-still _ _ _ (record { view = refl; clean = λ k. record { reader = k .reader; table = k .table; echo = k .echo } }) _ _)
 
 pub rcte-moved-spec : {M : Type 1} → statement M

@@ -47,11 +47,20 @@ same-length-2 c = search needs
 
 -- src/network.rt:115:9
 returns : tie.Need-returns
-returns c = rw (as-text (viewPrinter (c .before .before .before .before .before .before .before .before .before .before .before .before .before .args .s)) (c .before .before .before .before .before .before .before .before .before .before .before .before .before .args .b) (entryOf (viewPrinter (c .before .before .before .before .before .before .before .before .before .before .before .before .before .args .s) .table) (c .before .before .before .before .before .before .before .before .before .before .before .before .before .args .b)) (textIn (c .before .before .before .before .before .before .before .text-of .result)) (text-entry _ (sym (c .before .before .before .before .before .before .before .before .before .is-defined .ensures) ∙ c .before .before .before .before .before .before .before .before .if1 .taken)) (c .before .before .before .before .before .before .before .text-of .ensures .bytes)) (c .before .before .before .before .text-read .ensures)
+returns c =
+    let start = c .before .before .before .before .before .before .before .before .before .before .before .before .before in
+    let a = start .args in
+    let is-defined = c .before .before .before .before .before .before .before .before .before .is-defined in
+    let if1 = c .before .before .before .before .before .before .before .before .if1 in
+    let text-of = c .before .before .before .before .before .before .before .text-of in
+    rw (as-text (viewPrinter (a .s)) (a .b) (entryOf (viewPrinter (a .s) .table) (a .b)) (textIn (text-of .result)) (text-entry _ (sym (is-defined .ensures) ∙ if1 .taken)) (text-of .ensures .bytes)) (c .before .before .before .before .text-read .ensures)
 
 -- src/network.rt:117:5
 byte-read-requires : tie.Need-byte-read-requires
-byte-read-requires c κs = rw (ap (λ (x : Entry). entryRead (viewPrinter (c .before .before .before .before .before .before .before .args .s)) (c .before .before .before .before .before .before .before .args .b) x) (plain-entry (entryOf (viewPrinter (c .before .before .before .before .before .before .before .args .s) .table) (c .before .before .before .before .before .before .before .args .b)) (sym (c .before .before .before .is-defined .ensures) ∙ c .before .before .if1 .left))) at (c .before .before .before .before .before .before .before .pre)
+byte-read-requires c κs =
+    let start = c .before .before .before .before .before .before .before in
+    let a = start .args in
+    rw (ap (λ (x : Entry). entryRead (viewPrinter (a .s)) (a .b) x) (plain-entry (entryOf (viewPrinter (a .s) .table) (a .b)) (sym (c .before .before .before .is-defined .ensures) ∙ c .before .before .if1 .left))) at (start .pre)
 
 -- src/network.rt:107:1
 same-length-3 : tie.Need-same-length-3
@@ -63,7 +72,12 @@ same-length-4 c = search needs
 
 -- src/network.rt:107:1
 returns-2 : tie.Need-returns-2
-returns-2 c = rw (ap (λ (x : Entry). entryRead (viewPrinter (c .before .before .before .before .before .before .before .before .before .before .before .before .args .s)) (c .before .before .before .before .before .before .before .before .before .before .before .before .args .b) x) (plain-entry (entryOf (viewPrinter (c .before .before .before .before .before .before .before .before .before .before .before .before .args .s) .table) (c .before .before .before .before .before .before .before .before .before .before .before .before .args .b)) (sym (c .before .before .before .before .before .before .before .before .is-defined .ensures) ∙ c .before .before .before .before .before .before .before .if1 .left))) (c .before .before .before .before .byte-read .ensures)
+returns-2 c =
+    let start = c .before .before .before .before .before .before .before .before .before .before .before .before in
+    let a = start .args in
+    let is-defined = c .before .before .before .before .before .before .before .before .is-defined in
+    let if1 = c .before .before .before .before .before .before .before .if1 in
+    rw (ap (λ (x : Entry). entryRead (viewPrinter (a .s)) (a .b) x) (plain-entry (entryOf (viewPrinter (a .s) .table) (a .b)) (sym (is-defined .ensures) ∙ if1 .left))) (c .before .before .before .before .byte-read .ensures)
 
 pub defined-read-spec : {M : Type 1} → statement M
 defined-read-spec =

@@ -20,7 +20,10 @@ macros-requires c κs = search needs
 
 -- src/network.rt:128:9
 byte-read-requires : tie.Need-byte-read-requires
-byte-read-requires c κs = rw (off-read (viewPrinter (c .before .before .before .before .before .before .before .args .t1)) (c .before .before .before .before .before .before .before .args .b) (sym (c .before .before .before .macros .ensures) ∙ not-true _ (c .before .before .if1 .taken))) at (c .before .before .before .before .before .before .before .pre)
+byte-read-requires c κs =
+    let start = c .before .before .before .before .before .before .before in
+    let a = start .args in
+    rw (off-read (viewPrinter (a .t1)) (a .b) (sym (c .before .before .before .macros .ensures) ∙ not-true _ (c .before .before .if1 .taken))) at (start .pre)
 
 -- src/network.rt:128:9
 same-length : tie.Need-same-length
@@ -32,7 +35,12 @@ same-length-2 c = search needs
 
 -- src/network.rt:128:9
 returns : tie.Need-returns
-returns c = rw (off-read (viewPrinter (c .before .before .before .before .before .before .before .before .before .before .before .before .args .t1)) (c .before .before .before .before .before .before .before .before .before .before .before .before .args .b) (sym (c .before .before .before .before .before .before .before .before .macros .ensures) ∙ not-true _ (c .before .before .before .before .before .before .before .if1 .taken))) (c .before .before .before .before .byte-read .ensures)
+returns c =
+    let start = c .before .before .before .before .before .before .before .before .before .before .before .before in
+    let a = start .args in
+    let macros = c .before .before .before .before .before .before .before .before .macros in
+    let if1 = c .before .before .before .before .before .before .before .if1 in
+    rw (off-read (viewPrinter (a .t1)) (a .b) (sym (macros .ensures) ∙ not-true _ (if1 .taken))) (c .before .before .before .before .byte-read .ensures)
 
 -- src/network.rt:130:8
 is-unmarked-requires : tie.Need-is-unmarked-requires
@@ -40,7 +48,10 @@ is-unmarked-requires c κs = search needs
 
 -- src/network.rt:131:9
 byte-read-requires-2 : tie.Need-byte-read-requires-2
-byte-read-requires-2 c κs = rw (plain-read (viewPrinter (c .before .before .before .before .before .before .before .before .before .before .before .args .t1)) (c .before .before .before .before .before .before .before .before .before .before .before .args .b) (unmarked-plain (c .before .before .before .before .before .before .before .before .before .before .before .args .t1 .table) (c .before .before .before .before .before .before .before .before .before .before .before .args .b) (sym (c .before .before .before .is-unmarked .ensures) ∙ c .before .before .if2 .taken))) at (c .before .before .before .before .before .before .before .before .before .before .before .pre)
+byte-read-requires-2 c κs =
+    let start = c .before .before .before .before .before .before .before .before .before .before .before in
+    let a = start .args in
+    rw (plain-read (viewPrinter (a .t1)) (a .b) (unmarked-plain (a .t1 .table) (a .b) (sym (c .before .before .before .is-unmarked .ensures) ∙ c .before .before .if2 .taken))) at (start .pre)
 
 -- src/network.rt:131:9
 same-length-3 : tie.Need-same-length-3
@@ -52,7 +63,12 @@ same-length-4 c = search needs
 
 -- src/network.rt:131:9
 returns-2 : tie.Need-returns-2
-returns-2 c = rw (plain-read (viewPrinter (c .before .before .before .before .before .before .before .before .before .before .before .before .before .before .before .before .args .t1)) (c .before .before .before .before .before .before .before .before .before .before .before .before .before .before .before .before .args .b) (unmarked-plain (c .before .before .before .before .before .before .before .before .before .before .before .before .before .before .before .before .args .t1 .table) (c .before .before .before .before .before .before .before .before .before .before .before .before .before .before .before .before .args .b) (sym (c .before .before .before .before .before .before .before .before .is-unmarked .ensures) ∙ c .before .before .before .before .before .before .before .if2 .taken))) (c .before .before .before .before .byte-read2 .ensures)
+returns-2 c =
+    let start = c .before .before .before .before .before .before .before .before .before .before .before .before .before .before .before .before in
+    let a = start .args in
+    let is-unmarked = c .before .before .before .before .before .before .before .before .is-unmarked in
+    let if2 = c .before .before .before .before .before .before .before .if2 in
+    rw (plain-read (viewPrinter (a .t1)) (a .b) (unmarked-plain (a .t1 .table) (a .b) (sym (is-unmarked .ensures) ∙ if2 .taken))) (c .before .before .before .before .byte-read2 .ensures)
 
 -- src/network.rt:134:9
 is-between-requires : tie.Need-is-between-requires
@@ -60,7 +76,10 @@ is-between-requires c κs = search needs
 
 -- src/network.rt:135:9
 byte-read-requires-3 : tie.Need-byte-read-requires-3
-byte-read-requires-3 c κs = rw (inside-read (viewPrinter (c .before .before .before .before .before .before .before .before .before .before .before .before .before .before .args .t1)) (c .before .before .before .before .before .before .before .before .before .before .before .before .before .before .args .b) (sym (c .before .before .before .is-between .ensures) ∙ not-true _ (c .before .before .if3 .taken))) at (c .before .before .before .before .before .before .before .before .before .before .before .before .before .before .pre)
+byte-read-requires-3 c κs =
+    let start = c .before .before .before .before .before .before .before .before .before .before .before .before .before .before in
+    let a = start .args in
+    rw (inside-read (viewPrinter (a .t1)) (a .b) (sym (c .before .before .before .is-between .ensures) ∙ not-true _ (c .before .before .if3 .taken))) at (start .pre)
 
 -- src/network.rt:135:9
 same-length-5 : tie.Need-same-length-5
@@ -72,11 +91,21 @@ same-length-6 c = search needs
 
 -- src/network.rt:135:9
 returns-3 : tie.Need-returns-3
-returns-3 c = rw (inside-read (viewPrinter (c .before .before .before .before .before .before .before .before .before .before .before .before .before .before .before .before .before .before .before .args .t1)) (c .before .before .before .before .before .before .before .before .before .before .before .before .before .before .before .before .before .before .before .args .b) (sym (c .before .before .before .before .before .before .before .before .is-between .ensures) ∙ not-true _ (c .before .before .before .before .before .before .before .if3 .taken))) (c .before .before .before .before .byte-read3 .ensures)
+returns-3 c =
+    let start = c .before .before .before .before .before .before .before .before .before .before .before .before .before .before .before .before .before .before .before in
+    let a = start .args in
+    let is-between = c .before .before .before .before .before .before .before .before .is-between in
+    let if3 = c .before .before .before .before .before .before .before .if3 in
+    rw (inside-read (viewPrinter (a .t1)) (a .b) (sym (is-between .ensures) ∙ not-true _ (if3 .taken))) (c .before .before .before .before .byte-read3 .ensures)
 
 -- src/network.rt:137:5
 defined-read-requires : tie.Need-defined-read-requires
-defined-read-requires c κs = rw (chosen-read (viewPrinter (c .before .before .before .before .before .before .before .before .before .before .before .before .before .before .args .t1)) (c .before .before .before .before .before .before .before .before .before .before .before .before .before .before .args .b) (sym (c .before .before .before .before .before .before .before .before .before .before .macros .ensures) ∙ not-false _ (c .before .before .before .before .before .before .before .before .before .if1 .left)) (sym (c .before .before .before .is-between .ensures) ∙ not-false _ (c .before .before .if3 .left))) at (c .before .before .before .before .before .before .before .before .before .before .before .before .before .before .pre)
+defined-read-requires c κs =
+    let start = c .before .before .before .before .before .before .before .before .before .before .before .before .before .before in
+    let a = start .args in
+    let macros = c .before .before .before .before .before .before .before .before .before .before .macros in
+    let if1 = c .before .before .before .before .before .before .before .before .before .if1 in
+    rw (chosen-read (viewPrinter (a .t1)) (a .b) (sym (macros .ensures) ∙ not-false _ (if1 .left)) (sym (c .before .before .before .is-between .ensures) ∙ not-false _ (c .before .before .if3 .left))) at (start .pre)
 
 -- src/network.rt:121:1
 same-length-7 : tie.Need-same-length-7
@@ -88,7 +117,14 @@ same-length-8 c = search needs
 
 -- src/network.rt:121:1
 returns-4 : tie.Need-returns-4
-returns-4 c = rw (chosen-read (viewPrinter (c .before .before .before .before .before .before .before .before .before .before .before .before .before .before .before .before .before .before .before .args .t1)) (c .before .before .before .before .before .before .before .before .before .before .before .before .before .before .before .before .before .before .before .args .b) (sym (c .before .before .before .before .before .before .before .before .before .before .before .before .before .before .before .macros .ensures) ∙ not-false _ (c .before .before .before .before .before .before .before .before .before .before .before .before .before .before .if1 .left)) (sym (c .before .before .before .before .before .before .before .before .is-between .ensures) ∙ not-false _ (c .before .before .before .before .before .before .before .if3 .left))) (c .before .before .before .before .defined-read .ensures)
+returns-4 c =
+    let start = c .before .before .before .before .before .before .before .before .before .before .before .before .before .before .before .before .before .before .before in
+    let a = start .args in
+    let macros = c .before .before .before .before .before .before .before .before .before .before .before .before .before .before .before .macros in
+    let if1 = c .before .before .before .before .before .before .before .before .before .before .before .before .before .before .if1 in
+    let is-between = c .before .before .before .before .before .before .before .before .is-between in
+    let if3 = c .before .before .before .before .before .before .before .if3 in
+    rw (chosen-read (viewPrinter (a .t1)) (a .b) (sym (macros .ensures) ∙ not-false _ (if1 .left)) (sym (is-between .ensures) ∙ not-false _ (if3 .left))) (c .before .before .before .before .defined-read .ensures)
 
 pub network-read-spec : {M : Type 1} → statement M
 network-read-spec =

@@ -33,7 +33,10 @@ text-long c = search needs
 
 -- src/network.rt:88:5
 loop-holds : tie.Need-loop-holds Inv-loop μ-loop
-loop-holds c = begun (c .before .before .before .args .s) (c .before .before .before .args .paper .now) (c .before .before .before .args .wire .now) (take (c .before .before .before .args .text .len) (c .before .before .before .args .text .bytes))
+loop-holds c =
+    let start = c .before .before .before in
+    let a = start .args in
+    begun (a .s) (a .paper .now) (a .wire .now) (take (a .text .len) (a .text .bytes))
 
 -- src/network.rt:89:17
 array-read-b : tie.Need-array-read-b Inv-loop μ-loop
@@ -43,11 +46,19 @@ array-read-b c =
 
 -- src/network.rt:90:40
 sub-byte-read : tie.Need-sub-byte-read Inv-loop μ-loop
-sub-byte-read c = paper-within (c .before .before .before .before .before .args .s) (c .before .before .before .before .before .args .paper .now) (c .before .before .before .before .before .args .wire .now) (take (c .before .before .before .before .before .args .text .len) (c .before .before .before .before .before .args .text .bytes)) (c .before .before .before .before .before .pre .1 .0) (c .before .before .before .before .before .pre .1 .1) (c .before .loop .paper) (c .before .loop .wire) (c .before .loop .state) (c .before .loop .note) (c .before .loop .i) (c .before .loop .p) (c .before .loop .w) (c .before .loop .inv)
+sub-byte-read c =
+    let start = c .before .before .before .before .before in
+    let a = start .args in
+    let loop = c .before .loop in
+    paper-within (a .s) (a .paper .now) (a .wire .now) (take (a .text .len) (a .text .bytes)) (start .pre .1 .0) (start .pre .1 .1) (loop .paper) (loop .wire) (loop .state) (loop .note) (loop .i) (loop .p) (loop .w) (loop .inv)
 
 -- src/network.rt:90:40
 part-byte-read-start : tie.Need-part-byte-read-start Inv-loop μ-loop
-part-byte-read-start c = paper-within (c .before .before .before .before .before .args .s) (c .before .before .before .before .before .args .paper .now) (c .before .before .before .before .before .args .wire .now) (take (c .before .before .before .before .before .args .text .len) (c .before .before .before .before .before .args .text .bytes)) (c .before .before .before .before .before .pre .1 .0) (c .before .before .before .before .before .pre .1 .1) (c .before .loop .paper) (c .before .loop .wire) (c .before .loop .state) (c .before .loop .note) (c .before .loop .i) (c .before .loop .p) (c .before .loop .w) (c .before .loop .inv)
+part-byte-read-start c =
+    let start = c .before .before .before .before .before in
+    let a = start .args in
+    let loop = c .before .loop in
+    paper-within (a .s) (a .paper .now) (a .wire .now) (take (a .text .len) (a .text .bytes)) (start .pre .1 .0) (start .pre .1 .1) (loop .paper) (loop .wire) (loop .state) (loop .note) (loop .i) (loop .p) (loop .w) (loop .inv)
 
 -- src/network.rt:90:40
 part-byte-read-end : tie.Need-part-byte-read-end Inv-loop μ-loop
@@ -55,11 +66,19 @@ part-byte-read-end c = search needs
 
 -- src/network.rt:90:57
 sub-byte-read-2 : tie.Need-sub-byte-read-2 Inv-loop μ-loop
-sub-byte-read-2 c = wire-within (c .before .before .before .before .before .before .args .s) (c .before .before .before .before .before .before .args .paper .now) (c .before .before .before .before .before .before .args .wire .now) (take (c .before .before .before .before .before .before .args .text .len) (c .before .before .before .before .before .before .args .text .bytes)) (c .before .before .before .before .before .before .pre .1 .0) (c .before .before .before .before .before .before .pre .1 .1) (c .before .before .loop .paper) (c .before .before .loop .wire) (c .before .before .loop .state) (c .before .before .loop .note) (c .before .before .loop .i) (c .before .before .loop .p) (c .before .before .loop .w) (c .before .before .loop .inv)
+sub-byte-read-2 c =
+    let start = c .before .before .before .before .before .before in
+    let a = start .args in
+    let loop = c .before .before .loop in
+    wire-within (a .s) (a .paper .now) (a .wire .now) (take (a .text .len) (a .text .bytes)) (start .pre .1 .0) (start .pre .1 .1) (loop .paper) (loop .wire) (loop .state) (loop .note) (loop .i) (loop .p) (loop .w) (loop .inv)
 
 -- src/network.rt:90:57
 part-byte-read-start-2 : tie.Need-part-byte-read-start-2 Inv-loop μ-loop
-part-byte-read-start-2 c = wire-within (c .before .before .before .before .before .before .args .s) (c .before .before .before .before .before .before .args .paper .now) (c .before .before .before .before .before .before .args .wire .now) (take (c .before .before .before .before .before .before .args .text .len) (c .before .before .before .before .before .before .args .text .bytes)) (c .before .before .before .before .before .before .pre .1 .0) (c .before .before .before .before .before .before .pre .1 .1) (c .before .before .loop .paper) (c .before .before .loop .wire) (c .before .before .loop .state) (c .before .before .loop .note) (c .before .before .loop .i) (c .before .before .loop .p) (c .before .before .loop .w) (c .before .before .loop .inv)
+part-byte-read-start-2 c =
+    let start = c .before .before .before .before .before .before in
+    let a = start .args in
+    let loop = c .before .before .loop in
+    wire-within (a .s) (a .paper .now) (a .wire .now) (take (a .text .len) (a .text .bytes)) (start .pre .1 .0) (start .pre .1 .1) (loop .paper) (loop .wire) (loop .state) (loop .note) (loop .i) (loop .p) (loop .w) (loop .inv)
 
 -- src/network.rt:90:57
 part-byte-read-end-2 : tie.Need-part-byte-read-end-2 Inv-loop μ-loop
@@ -92,7 +111,10 @@ first-note-requires c κs = search needs
 
 -- src/network.rt:96:9
 add-i : tie.Need-add-i Inv-loop μ-loop
-add-i c = omega (arith, c .before .before .before .before .before .before .before .before .before .before .before .loop-test .taken, c .before .before .before .before .before .before .before .before .before .before .before .before .before .before .before .before .pre .0)
+add-i c =
+    let start = c .before .before .before .before .before .before .before .before .before .before .before .before .before .before .before .before in
+    let loop-test = c .before .before .before .before .before .before .before .before .before .before .before .loop-test in
+    omega (arith, loop-test .taken, start .pre .0)
 
 -- src/network.rt:88:5
 loop-less : tie.Need-loop-less Inv-loop μ-loop
@@ -107,15 +129,27 @@ loop-again c =
 
 -- src/network.rt:75:1
 same-length : tie.Need-same-length Inv-loop μ-loop
-same-length c = same-long (c .before .loop .inv .paper) (paper-done (c .before .before .before .before .before .args .s) (c .before .before .before .before .before .args .paper .now) (c .before .before .before .before .before .args .wire .now) (take (c .before .before .before .before .before .args .text .len) (c .before .before .before .before .before .args .text .bytes)) (c .before .before .before .before .before .pre .1 .0) (c .before .before .before .before .before .pre .1 .1) (c .before .loop .paper) (c .before .loop .wire) (c .before .loop .state) (c .before .loop .note) (c .before .loop .i) (c .before .loop .p) (c .before .loop .w) (c .before .loop .inv))
+same-length c =
+    let start = c .before .before .before .before .before in
+    let a = start .args in
+    let loop = c .before .loop in
+    same-long (loop .inv .paper) (paper-done (a .s) (a .paper .now) (a .wire .now) (take (a .text .len) (a .text .bytes)) (start .pre .1 .0) (start .pre .1 .1) (loop .paper) (loop .wire) (loop .state) (loop .note) (loop .i) (loop .p) (loop .w) (loop .inv))
 
 -- src/network.rt:75:1
 same-length-2 : tie.Need-same-length-2 Inv-loop μ-loop
-same-length-2 c = same-long (c .before .loop .inv .wire) (wire-done (c .before .before .before .before .before .args .s) (c .before .before .before .before .before .args .paper .now) (c .before .before .before .before .before .args .wire .now) (take (c .before .before .before .before .before .args .text .len) (c .before .before .before .before .before .args .text .bytes)) (c .before .before .before .before .before .pre .1 .0) (c .before .before .before .before .before .pre .1 .1) (c .before .loop .paper) (c .before .loop .wire) (c .before .loop .state) (c .before .loop .note) (c .before .loop .i) (c .before .loop .p) (c .before .loop .w) (c .before .loop .inv))
+same-length-2 c =
+    let start = c .before .before .before .before .before in
+    let a = start .args in
+    let loop = c .before .loop in
+    same-long (loop .inv .wire) (wire-done (a .s) (a .paper .now) (a .wire .now) (take (a .text .len) (a .text .bytes)) (start .pre .1 .0) (start .pre .1 .1) (loop .paper) (loop .wire) (loop .state) (loop .note) (loop .i) (loop .p) (loop .w) (loop .inv))
 
 -- src/network.rt:75:1
 returns : tie.Need-returns Inv-loop μ-loop
-returns c = ended (c .before .before .before .before .before .args .s) (c .before .before .before .before .before .args .paper .now) (c .before .before .before .before .before .args .wire .now) (take (c .before .before .before .before .before .args .text .len) (c .before .before .before .before .before .args .text .bytes)) (c .before .before .before .before .before .pre .1 .0) (c .before .before .before .before .before .pre .1 .1) (c .before .loop .paper) (c .before .loop .wire) (c .before .loop .state) (c .before .loop .note) (c .before .loop .i) (c .before .loop .p) (c .before .loop .w) (c .before .loop .inv) (all-read (c .before .before .before .before .before .args .text .bytes) (c .before .before .before .before .before .args .text .len) (c .before .loop .i) (c .loop-test .left))
+returns c =
+    let start = c .before .before .before .before .before in
+    let a = start .args in
+    let loop = c .before .loop in
+    ended (a .s) (a .paper .now) (a .wire .now) (take (a .text .len) (a .text .bytes)) (start .pre .1 .0) (start .pre .1 .1) (loop .paper) (loop .wire) (loop .state) (loop .note) (loop .i) (loop .p) (loop .w) (loop .inv) (all-read (a .text .bytes) (a .text .len) (loop .i) (c .loop-test .left))
 
 pub text-read-spec : {M : Type 1} → statement M
 text-read-spec =

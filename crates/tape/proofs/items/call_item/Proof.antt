@@ -58,7 +58,9 @@ same-length-6 c = search needs
 -- src/items.rt:56:1
 returns-3 : tie.Need-returns-3
 unfolding itemOf
-returns-3 c = rw (ne-eqb _ 1 (c .before .before .before .before .before .before .before .match .rest .0 .1), ne-eqb _ 2 (c .before .before .before .before .before .before .before .match .rest .1)) (c .before .before .before .before .ask .ensures)
+returns-3 c =
+    let match = c .before .before .before .before .before .before .before .match in
+    rw (ne-eqb _ 1 (match .rest .0 .1), ne-eqb _ 2 (match .rest .1)) (c .before .before .before .before .ask .ensures)
 
 pub call-item-spec : {M : Type 1} → statement M
 call-item-spec =

@@ -25,7 +25,10 @@ enum-told c = search needs
 
 -- src/items.rt:44:9
 returns : tie.Need-returns
-returns c = rw (pair-typed (viewPrinter (c .before .before .before .before .before .args .s)) (length (c .before .before .before .before .before .args .paper .now)) (length (c .before .before .before .before .before .args .wire .now)) (c .before .before .before .before .before .args .kind) (c .before .before .before .before .before .args .v), sym (c .before .before .key-of .ensures) ∙ c .enum-told .given .1) met-refused
+returns c =
+    let start = c .before .before .before .before .before in
+    let a = start .args in
+    rw (pair-typed (viewPrinter (a .s)) (length (a .paper .now)) (length (a .wire .now)) (a .kind) (a .v), sym (c .before .before .key-of .ensures) ∙ c .enum-told .given .1) met-refused
 
 -- src/items.rt:52:5
 press-requires : tie.Need-press-requires
@@ -41,7 +44,12 @@ same-length-2 c = search needs
 
 -- src/items.rt:39:1
 returns-2 : tie.Need-returns-2
-returns-2 c = rw (pair-typed (viewPrinter (c .before .before .before .before .before .before .before .before .before .before .before .before .before .args .s)) (length (c .before .before .before .before .before .before .before .before .before .before .before .before .before .args .paper .now)) (length (c .before .before .before .before .before .before .before .before .before .before .before .before .before .args .wire .now)) (c .before .before .before .before .before .before .before .before .before .before .before .before .before .args .kind) (c .before .before .before .before .before .before .before .before .before .before .before .before .before .args .v), sym (c .before .before .before .before .before .before .before .before .before .before .key-of .ensures) ∙ c .before .before .before .before .before .before .before .before .pair .given .1) (c .before .before .before .before .press .ensures)
+returns-2 c =
+    let start = c .before .before .before .before .before .before .before .before .before .before .before .before .before in
+    let a = start .args in
+    let key-of = c .before .before .before .before .before .before .before .before .before .before .key-of in
+    let pair = c .before .before .before .before .before .before .before .before .pair in
+    rw (pair-typed (viewPrinter (a .s)) (length (a .paper .now)) (length (a .wire .now)) (a .kind) (a .v), sym (key-of .ensures) ∙ pair .given .1) (c .before .before .before .before .press .ensures)
 
 pub press-pair-spec : {M : Type 1} → statement M
 press-pair-spec =

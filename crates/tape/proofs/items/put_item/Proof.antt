@@ -36,7 +36,10 @@ slice-aggregate-put-shown-2 c = simp length-take (omega (arith, within-after (c 
 
 -- src/items.rt:85:9
 put-shown-requires : tie.Need-put-shown-requires
-put-shown-requires c κs = rw (read-off (c .before .before .before .before .before .before .before .before .before .call-item .ensures .wrote .paper), read-off (c .before .before .before .before .before .before .before .before .before .call-item .ensures .wrote .wire), c .before .before .before .before .code-number .ensures, c .before .before .before .before .before .before .before .before .before .call-item .ensures .code) (c .before .before .before .before .before .before .before .before .before .before .before .before .before .before .before .pre)
+put-shown-requires c κs =
+    let start = c .before .before .before .before .before .before .before .before .before .before .before .before .before .before .before in
+    let call-item = c .before .before .before .before .before .before .before .before .before .call-item in
+    rw (read-off (call-item .ensures .wrote .paper), read-off (call-item .ensures .wrote .wire), c .before .before .before .before .code-number .ensures, call-item .ensures .code) (start .pre)
 
 -- src/items.rt:67:1
 same-length : tie.Need-same-length

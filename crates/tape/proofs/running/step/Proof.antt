@@ -38,7 +38,12 @@ same-length c = search needs
 
 returns-2 : tie.Need-returns-2
 returns-2 c =
-    rw (step-long (c .before .before .before .before .before .before .before .before .before .before .before .before .before .args .tape .now) (viewMachine (c .before .before .before .before .before .before .before .before .before .before .before .before .before .args .m)) (sym (c .before .before .before .before .before .before .before .is-over .ensures) ∙ c .before .before .before .before .before .before .if1 .left) (sym (c .before .before .before .before .before .is-too-long .ensures) ∙ c .before .before .before .before .if2 .taken)) (c .before .before .refuse-tape .ensures)
+    let start = c .before .before .before .before .before .before .before .before .before .before .before .before .before in
+    let a = start .args in
+    let is-over = c .before .before .before .before .before .before .before .is-over in
+    let if1 = c .before .before .before .before .before .before .if1 in
+    let is-too-long = c .before .before .before .before .before .is-too-long in
+    rw (step-long (a .tape .now) (viewMachine (a .m)) (sym (is-over .ensures) ∙ if1 .left) (sym (is-too-long .ensures) ∙ c .before .before .before .before .if2 .taken)) (c .before .before .refuse-tape .ensures)
 
 body-of-requires : tie.Need-body-of-requires
 body-of-requires c κs = search needs
@@ -47,14 +52,26 @@ width-requires : tie.Need-width-requires
 width-requires c κs = search needs
 
 next-field-requires : tie.Need-next-field-requires
-next-field-requires c κs = (stands _ (sym (c .before .before .before .before .before .before .before .is-over .ensures) ∙ c .before .before .before .before .before .before .if1 .left) .field, c .before .before .before .before .before .before .before .before .before .before .before .before .before .pre .1 .1)
+next-field-requires c κs =
+    let start = c .before .before .before .before .before .before .before .before .before .before .before .before .before in
+    let is-over = c .before .before .before .before .before .before .before .is-over in
+    let if1 = c .before .before .before .before .before .before .if1 in
+    (stands _ (sym (is-over .ensures) ∙ if1 .left) .field, start .pre .1 .1)
 
 same-length-2 : tie.Need-same-length-2
 same-length-2 c = search needs
 
 returns-3 : tie.Need-returns-3
 returns-3 c =
-    rw (step-field (c .before .before .before .before .before .before .before .before .before .before .before .before .before .before .before .before .args .tape .now) (viewMachine (c .before .before .before .before .before .before .before .before .before .before .before .before .before .before .before .before .args .m)) (sym (c .before .before .before .before .before .before .before .before .before .before .is-over .ensures) ∙ c .before .before .before .before .before .before .before .before .before .if1 .left) (sym (c .before .before .before .before .before .before .before .before .is-too-long .ensures) ∙ c .before .before .before .before .before .before .before .if2 .left) (rw (c .before .before .before .before .before .before .body-of .ensures, c .before .before .before .before .before .width .ensures) at (c .before .before .before .before .if3 .taken)))
+    let start = c .before .before .before .before .before .before .before .before .before .before .before .before .before .before .before .before in
+    let a = start .args in
+    let is-over = c .before .before .before .before .before .before .before .before .before .before .is-over in
+    let if1 = c .before .before .before .before .before .before .before .before .before .if1 in
+    let is-too-long = c .before .before .before .before .before .before .before .before .is-too-long in
+    let if2 = c .before .before .before .before .before .before .before .if2 in
+    let body-of = c .before .before .before .before .before .before .body-of in
+    let width = c .before .before .before .before .before .width in
+    rw (step-field (a .tape .now) (viewMachine (a .m)) (sym (is-over .ensures) ∙ if1 .left) (sym (is-too-long .ensures) ∙ if2 .left) (rw (body-of .ensures, width .ensures) at (c .before .before .before .before .if3 .taken)))
     (c .before .before .next-field .ensures)
 
 shared-slice-read-a : tie.Need-shared-slice-read-a
@@ -83,8 +100,20 @@ same-length-5 c = search needs
 
 returns-4 : tie.Need-returns-4
 returns-4 c =
-    rw (step-item (c .before .before .before .before .before .before .before .before .before .before .before .before .before .before .before .before .before .before .before .before .before .before .before .before .before .args .tape .now) (viewMachine (c .before .before .before .before .before .before .before .before .before .before .before .before .before .before .before .before .before .before .before .before .before .before .before .before .before .args .m)) (sym (c .before .before .before .before .before .before .before .before .before .before .before .before .before .before .before .before .before .before .before .is-over .ensures) ∙ c .before .before .before .before .before .before .before .before .before .before .before .before .before .before .before .before .before .before .if1 .left) (sym (c .before .before .before .before .before .before .before .before .before .before .before .before .before .before .before .before .before .is-too-long .ensures) ∙ c .before .before .before .before .before .before .before .before .before .before .before .before .before .before .before .before .if2 .left) (rw (c .before .before .before .before .before .before .before .before .before .before .before .before .before .before .before .body-of .ensures, c .before .before .before .before .before .before .before .before .before .before .before .before .before .before .width .ensures) at (c .before .before .before .before .before .before .before .before .before .before .before .before .before .if3 .left)))
-    (rw (c .before .before .before .before .before .before .before .before .before .before .past-item .ensures, c .before .before .before .before .before .before .before .before .before .before .before .second .ensures, c .before .before .before .before .before .before .before .before .before .before .before .before .before .before .before .body-of .ensures) at (c .before .before .before .before .before .before .one-item .ensures))
+    let start = c .before .before .before .before .before .before .before .before .before .before .before .before .before .before .before .before .before .before .before .before .before .before .before .before .before in
+    let a = start .args in
+    let is-over = c .before .before .before .before .before .before .before .before .before .before .before .before .before .before .before .before .before .before .before .is-over in
+    let if1 = c .before .before .before .before .before .before .before .before .before .before .before .before .before .before .before .before .before .before .if1 in
+    let is-too-long = c .before .before .before .before .before .before .before .before .before .before .before .before .before .before .before .before .before .is-too-long in
+    let if2 = c .before .before .before .before .before .before .before .before .before .before .before .before .before .before .before .before .if2 in
+    let body-of = c .before .before .before .before .before .before .before .before .before .before .before .before .before .before .before .body-of in
+    let width = c .before .before .before .before .before .before .before .before .before .before .before .before .before .before .width in
+    let if3 = c .before .before .before .before .before .before .before .before .before .before .before .before .before .if3 in
+    let second = c .before .before .before .before .before .before .before .before .before .before .before .second in
+    let past-item = c .before .before .before .before .before .before .before .before .before .before .past-item in
+    let one-item = c .before .before .before .before .before .before .one-item in
+    rw (step-item (a .tape .now) (viewMachine (a .m)) (sym (is-over .ensures) ∙ if1 .left) (sym (is-too-long .ensures) ∙ if2 .left) (rw (body-of .ensures, width .ensures) at (if3 .left)))
+    (rw (past-item .ensures, second .ensures, body-of .ensures) at (one-item .ensures))
 
 pub step-spec : {M : Type 1} → statement M
 step-spec =
