@@ -6,10 +6,8 @@ use lib.ListN.{length, getD, drop}
 use lib.Dec.{ltb, eqb}
 use Rattle.lists.specs.Choice.{pick}
 use Rattle.codes.specs.Telnet.{IAC, DEFINE, ACCEPT, REFUSE, LITERAL, PLEASECANCEL}
-use Rattle.bodies.specs.declared.MacroCommand.{MacroCommand}
 use Rattle.bodies.specs.declared.MacroCommand.the-variants.{Define, Literal}
 use Rattle.bodies.specs.declared.MacroBody.{MacroBody}
-use Rattle.bodies.specs.declared.MacroReply.{MacroReply}
 use Rattle.bodies.specs.declared.MacroReply.the-variants.{Accept, Refuse, PleaseCancel}
 use Rattle.bodies.specs.declared.ReplyBody.{ReplyBody}
 

@@ -1,2 +1,4 @@
 pub mod LimitsBytes
 pub mod Limits
+pub mod Invariant
+pub mod Apart

@@ -3,10 +3,8 @@ use mathlib.Core.Bool.{Bool, true, false, _&&_, _||_, not}
 use mathlib.Core.List.{List, [], _∷_, _++_}
 use Prim.Native.Nat.{ℕ, _/_, _%_}
 use lib.Dec.{ltb, leb, eqb}
-use Rattle.lists.specs.Choice.{pick}
 use Rattle.codes.specs.Answers.{noRoom, wireRoom, Guard, when, guarded}
 use Rattle.codes.specs.Telnet.{RCTE, DS, IAC, plainCommand}
-use Rattle.codes.specs.declared.Code.{Code}
 use Rattle.codes.specs.declared.Code.the-variants.{NoRoom, BadCommand, AlreadySo, NotInForce, BadMacroByte, TooLong, Unanswered, NoText, BadValue, OutputWaits}
 use Rattle.codes.specs.declared.Whose.{Whose}
 use Rattle.keys.specs.declared.Key.{Key}

@@ -3,3 +3,4 @@ pub mod Network
 pub mod Calls
 pub mod Session
 pub mod Limits
+pub mod Apart

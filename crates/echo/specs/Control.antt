@@ -8,7 +8,6 @@ use Rattle.lists.specs.Choice.{pick}
 use Rattle.lists.specs.Lists.{joined}
 use Rattle.keys.specs.declared.Key.{Key}
 use Rattle.keys.specs.Keys.{keyWire}
-use Rattle.bodies.specs.declared.Action.{Action}
 use Rattle.bodies.specs.declared.Classes.{Classes}
 use Rattle.bodies.specs.declared.Classes.the-variants.{Same, New}
 use Rattle.bodies.specs.declared.RcteCommand.{RcteCommand}

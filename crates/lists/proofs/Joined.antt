@@ -1,9 +1,9 @@
 -- Runs of lists put one behind the other.
-use mathlib.Core.Path.{_≡_, refl, sym, ap, _∙_}
+use mathlib.Core.Path.{_≡_, refl, sym}
 use mathlib.Core.List.{List, [], _∷_, _++_, append-assoc, append-nil}
-use Prim.Native.Nat.{ℕ, suc, _+_, _<_}
+use Prim.Native.Nat.{ℕ, _+_, _<_}
 use native.Mathlib.Numerals.{add-one}
-use lib.ListN.{length, take, drop, getD, take-append-drop}
+use lib.ListN.{length, take, getD}
 use lib.Seq.{take-suc}
 use Rattle.lists.specs.Lists.{joined}
 

@@ -7,7 +7,7 @@ use native.Mathlib.Omega.{arith}
 use lib.ListN.{length, take, drop, getD, length-drop}
 use lib.Seq.{take-all}
 use lib.Dec.{ltb}
-use borrow.Author.Tests.{ltb-false, le-ltb}
+use borrow.Author.Tests.{ltb-false}
 use Rattle.lists.specs.Choice.{pick}
 use Rattle.bodies.specs.declared.MacroBody.{MacroBody}
 use Rattle.bodies.specs.declared.MacroCommand.{MacroCommand}
@@ -15,7 +15,7 @@ use Rattle.bodies.specs.MacroBodies.{macroBody}
 use Rattle.reader.specs.declared.Item.{Item}
 use Rattle.reader.specs.declared.Item.the-variants.{BodyEnd}
 use Rattle.reader.specs.Reading.{Reader, idle, read, byOption}
-use Rattle.printer.specs.State.{Printer, Did, withReader}
+use Rattle.printer.specs.State.{Printer, withReader}
 use Rattle.printer.specs.Network.{itemRead, byteRead, bodyRead}
 
 -- a body that is neither marred nor empty goes by its option

@@ -1,16 +1,41 @@
 -- Which way a network byte is read.
-use mathlib.Core.Path.{_≡_, refl, sym, ap}
-use mathlib.Core.Bool.{Bool, true, false, _&&_}
+use mathlib.Core.Path.{_≡_, refl, ap, _∙_}
+use mathlib.Core.Bool.{Bool, true, false, _&&_, _||_, not, false≢true}
+use mathlib.Core.List.{[], _∷_}
 use Prim.Native.Nat.{ℕ}
 use Rattle.lists.specs.Choice.{pick}
-use Rattle.macros.specs.Texts.{Entry, plain, text, entryOf}
-use Rattle.reader.specs.Reading.{isBetween}
-use Rattle.printer.specs.State.{Printer, Did, macrosOn}
-use Rattle.printer.specs.Network.{byteRead, entryRead, networkRead}
+use Rattle.macros.specs.Texts.{Entry, plain, entryOf}
+use borrow.Author.Tests.{not-true}
+use lib.Dec.{eqb}
+use Rattle.lists.proofs.Tables.{both-left, both-right}
+use Rattle.codes.specs.Telnet.{IAC}
+use Rattle.reader.specs.declared.Phase.{Phase}
+use Rattle.reader.specs.declared.Phase.the-variants.{Between, AfterIac, AfterVerb, InBody, InBodyAfterIac}
+use Rattle.reader.specs.declared.Item.the-variants.{Data}
+use Rattle.reader.specs.Reading.{Read, read, readIn, gives, isBetween, isData}
+use Rattle.printer.specs.State.{Printer, printing, rcteOn, macrosOn}
+use Rattle.printer.specs.Kept.{isOrdinary}
+use Rattle.printer.specs.Network.{dataRead, afterRead, byteRead, entryRead, networkRead}
 
 both-same : {D : Type 0} (t : Bool) (x y : D) → x ≡ y → pick t x y ≡ y
 both-same true x y e = e
 both-same false x y e = refl
+
+between : (p : Phase) → isBetween p ≡ true → p ≡ Between
+between Between e = refl
+between AfterIac e = absurd (false≢true e)
+between (AfterVerb v) e = absurd (false≢true e)
+between InBody e = absurd (false≢true e)
+between InBodyAfterIac e = absurd (false≢true e)
+
+-- data, for which the reader stays as it is
+pub data-byte : (s : Printer) (b : ℕ) → isData (s .reader .phase) b ≡ true → byteRead s b ≡ dataRead s b
+unfolding byteRead read
+data-byte s b e =
+    let plain = not-true (eqb b IAC) (both-left (not (eqb b IAC)) (isBetween (s .reader .phase)) e) in
+    let here = between (s .reader .phase) (both-right (not (eqb b IAC)) (isBetween (s .reader .phase)) e) in
+    let as-read : readIn (s .reader .phase) (s .reader) b ≡ gives (Data b) (s .reader) = rw (here, plain) in
+    ap (λ (r : Read). afterRead s r) as-read
 
 -- a byte that stands for itself
 pub plain-read : (s : Printer) (b : ℕ) → entryOf (s .table) b ≡ plain → networkRead s b ≡ byteRead s b
@@ -40,3 +65,13 @@ unfolding networkRead
 chosen-read s b m t =
     let f : (macrosOn s && isBetween (s .reader .phase)) ≡ true = rw (m, t) in
     ap (λ (x : Bool). pick x (entryRead s b (entryOf (s .table) b)) (byteRead s b)) f
+
+-- an ordinary byte is printed, and nothing else happens
+pub ordinary-read : (s : Printer) (b : ℕ) → isOrdinary (s .sides) (s .reader .phase) b ≡ true → networkRead s b ≡ printing (b ∷ []) s
+unfolding dataRead
+ordinary-read s b e = go (macrosOn s) (rcteOn s) refl refl e
+  where
+    go : (m r : Bool) → macrosOn s ≡ m → rcteOn s ≡ r → not (m || r) && isData (s .reader .phase) b ≡ true → networkRead s b ≡ printing (b ∷ []) s
+    go true r p q f = absurd (false≢true f)
+    go false true p q f = absurd (false≢true f)
+    go false false p q f = off-read s b p ∙ data-byte s b f ∙ (rw q)

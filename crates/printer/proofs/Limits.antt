@@ -31,7 +31,8 @@ use Rattle.printer.specs.Calls.{networkCall, badKey, keyTyped, keyCall, 
 use Rattle.printer.specs.Session.{Call, network, key, ask, suggest, called, answersFrom}
 use Rattle.printer.specs.Limits.{textLimit, Sized, InBytes, Limited, Fits, NetworkFits, KeyFits, MoveFits, SuggestionFits, CallFits, FreshLimited, NetworkKeeps, KeyKeeps, MoveKeeps, OfBytes, CallKeeps, Within, SessionWithin}
 use Rattle.macros.specs.Packed.{textOf}
-use Rattle.printer.proofs.LimitsEcho.{key-paper, key-wire, presses}
+use Rattle.printer.proofs.LimitsEcho.{presses}
+use Rattle.keys.proofs.Packing.{paper-most, wire-most}
 use Rattle.printer.proofs.LimitsReader.{credit, no-credit, credit-within}
 use Rattle.negotiation.proofs.Replies.{reply-long}
 use Rattle.wire.proofs.Coded.{coded-long}
@@ -80,8 +81,8 @@ key-fits s k z =
     either Fits (rcteOn s)
     (record { paper = omega (arith, p .paper); wire = omega (arith, p .wire, z .gathered) })
     (record {
-      paper = either (λ (l : List ℕ). length l ≤ paperRoom) (echoOn s) (lit≤ tt) (omega (arith, key-paper k));
-      wire = omega (arith, key-wire k);
+      paper = either (λ (l : List ℕ). length l ≤ paperRoom) (echoOn s) (lit≤ tt) (omega (arith, paper-most k));
+      wire = omega (arith, wire-most k);
     })
 
 pub key-keeps : KeyKeeps

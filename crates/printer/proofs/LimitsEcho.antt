@@ -6,30 +6,18 @@ use mathlib.Core.List.{List, [], _∷_, _++_}
 use Prim.Native.Nat.{ℕ, _+_, _*_, _≤_}
 use native.Mathlib.Omega.{arith}
 use borrow.Author.Tests.{ltb-false, leb-false}
-use lib.Dec.{ltb, eqb, lit≤}
+use lib.Dec.{ltb, lit≤}
 use lib.ListN.{length, length-append}
 use Rattle.lists.specs.Choice.{pick}
 use Rattle.lists.proofs.Lengths.{chosen, either, joined-within}
 use Rattle.keys.specs.declared.Key.{Key}
-use Rattle.keys.specs.declared.Key.the-variants.{Char, Line, Command}
-use Rattle.keys.specs.Keys.{keyPaper, keyWire, prints}
+use Rattle.keys.specs.Keys.{keyWire}
+use Rattle.keys.proofs.Packing.{paper-most, wire-most}
 use Rattle.echo.specs.Taking.{Orders, Taken, takenUp, gatherRoom, overflows, flushes, isSkipped, sentPaper}
 use Rattle.echo.specs.Control.{Echo, Echoed, waitRoom, isFull, pressed, stoppedAt, behind, released, ended}
 
 abbrev Two : List ℕ → Type 0
 Two bytes = length bytes ≤ 2
-
-pub key-paper : (k : Key) → length (keyPaper k) ≤ 2
-unfolding keyPaper
-key-paper (Char b) = either Two (prints b) (lit≤ tt) (lit≤ tt)
-key-paper Line = lit≤ tt
-key-paper (Command c) = lit≤ tt
-
-pub key-wire : (k : Key) → length (keyWire k) ≤ 2
-unfolding keyWire
-key-wire (Char b) = either Two (eqb b 13) (lit≤ tt) (either Two (eqb b 255) (lit≤ tt) (lit≤ tt))
-key-wire Line = lit≤ tt
-key-wire (Command c) = lit≤ tt
 
 -- one key taken up
 pub record Takes (gathered : List ℕ) (t : Taken) : Type 0 where
@@ -53,9 +41,9 @@ module _ (g w : List ℕ) (short : length w ≤ 2) where
 pub takes : (o : Orders) (g : List ℕ) (k : Key) → Takes g (takenUp o g k)
 unfolding takenUp
 takes o g k = record {
-  paper = either Two (isSkipped o k) (lit≤ tt) (key-paper k);
-  wire = spent g (keyWire k) (key-wire k) (overflows g k) (flushes o k);
-  room = λ h. kept g (keyWire k) (key-wire k) (overflows g k) (flushes o k) refl;
+  paper = either Two (isSkipped o k) (lit≤ tt) (paper-most k);
+  wire = spent g (keyWire k) (wire-most k) (overflows g k) (flushes o k);
+  room = λ h. kept g (keyWire k) (wire-most k) (overflows g k) (flushes o k) refl;
 }
 
 -- what is done with gathered bytes and waiting keys
@@ -89,8 +77,8 @@ releases o g (k ∷ ks) =
 pub ends : (echoed : Bool) (e : Echo) → Spends (e .gathered) (e .waiting) (ended echoed e)
 unfolding ended
 ends echoed e =
-    let paper = joined-within (λ k. sentPaper echoed k) 2 (λ k. either Two echoed (lit≤ tt) (key-paper k)) (e .waiting) in
-    let wire = joined-within keyWire 2 key-wire (e .waiting) in
+    let paper = joined-within (λ k. sentPaper echoed k) 2 (λ k. either Two echoed (lit≤ tt) (paper-most k)) (e .waiting) in
+    let wire = joined-within keyWire 2 wire-most (e .waiting) in
     record { paper = omega arith; wire = simp length-append (omega arith); room = λ l. lit≤ tt }
 
 -- a key pressed: it waits, or it is taken up at once

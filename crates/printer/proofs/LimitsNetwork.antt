@@ -10,17 +10,14 @@ use lib.ListN.{length, drop, length-append}
 use lib.Seq.{getD-drop}
 use Rattle.lists.specs.Choice.{pick}
 use Rattle.lists.proofs.Lengths.{chosen, either, every-set, every-replicate}
-use Rattle.codes.specs.Telnet.{IAC, RCTE, NAOCRD, BM, ACCEPT, REFUSE, DS, whoseOf, enables}
+use Rattle.codes.specs.Telnet.{RCTE, NAOCRD, BM, ACCEPT, REFUSE, DS, whoseOf, enables}
 use Rattle.codes.specs.declared.Note.{Note}
 use Rattle.codes.specs.declared.Note.the-variants.{Unreadable, Inactive, OtherOption, Stray}
 use Rattle.codes.specs.declared.Verb.{Verb}
-use Rattle.codes.specs.declared.Whose.{Whose}
 use Rattle.negotiation.proofs.Replies.{reply-long}
 use Rattle.wire.proofs.Coded.{coded-long, coded-one}
-use Rattle.wire.specs.Frames.{coded, frame}
+use Rattle.wire.specs.Frames.{frame}
 use Rattle.lists.specs.Lists.{joined}
-use Rattle.negotiation.specs.declared.Reply.{Reply}
-use Rattle.negotiation.specs.declared.Reply.the-variants.{Silent, Positive, Negative}
 use Rattle.negotiation.specs.declared.Sides.{Sides}
 use Rattle.negotiation.specs.declared.Standing.{Standing}
 use Rattle.negotiation.specs.declared.Side.{Side}

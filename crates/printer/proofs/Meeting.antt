@@ -1,15 +1,14 @@
 -- How a step of the code meets the rule's, put together.
-use mathlib.Core.Path.{_≡_, refl, sym, _∙_}
-use mathlib.Core.List.{List, [], _++_}
+use mathlib.Core.Path.{_≡_, refl}
+use mathlib.Core.List.{List}
 use Prim.Native.Nat.{ℕ}
-use Rattle.lists.specs.Buffers.{Wrote}
 use Rattle.lists.proofs.Starts.{wrote-none}
 use Rattle.codes.specs.declared.Note.{Note}
 use Rattle.printer.specs.declared.Printer as code-printer
 use Rattle.printer.specs.declared.Step.{Step}
-use Rattle.printer.specs.State.{Printer, Did, notes}
+use Rattle.printer.specs.State.{Printer, notes}
 use Rattle.codes.specs.declared.Note.the-variants.{Clear}
-use Rattle.printer.specs.Kept.{viewPrinter, CleanPrinter, WroteTo, MetStep, MetQuiet, MetQuietly}
+use Rattle.printer.specs.Kept.{viewPrinter, CleanPrinter, MetStep, MetQuiet, MetQuietly}
 use Rattle.printer.specs.State.{nothing}
 
 abbrev pub quietStep : Note → code-printer.Printer → Step
@@ -35,7 +34,3 @@ met-still p t s m held lay = record {
   view = m .view;
   clean = m .clean;
 }
-
--- a step after which nothing but the negotiation of a side differs keeps all cells
-pub clean-sides : {p t : code-printer.Printer} → t .reader ≡ p .reader → t .table ≡ p .table → t .echo ≡ p .echo → CleanPrinter p → CleanPrinter t
-clean-sides a b c k = record { reader = rw a (k .reader); table = rw b (k .table); echo = rw c (k .echo) }

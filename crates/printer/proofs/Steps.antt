@@ -1,21 +1,20 @@
 -- Steps put one behind the other.
-use mathlib.Core.Path.{_≡_, refl, sym, ap, _∙_}
-use mathlib.Core.Bool.{Bool, true, false}
-use mathlib.Core.List.{List, [], _∷_, _++_, append-assoc, append-nil}
+use mathlib.Core.Path.{_≡_, refl, sym, ap}
+use mathlib.Core.Bool.{true, false}
+use mathlib.Core.List.{List, [], append-assoc, append-nil}
 use Prim.Native.Nat.{ℕ, suc, _+_, _<_}
 use native.Mathlib.Numerals.{add-one}
-use lib.ListN.{length, take, drop, getD}
+use lib.ListN.{length, drop, getD}
 use lib.Seq.{drop-cons}
 use Rattle.codes.specs.Answers.{firstNote}
 use Rattle.codes.specs.declared.Note.{Note}
 use Rattle.codes.specs.declared.Note.the-variants.{Clear, Unreadable, Inactive, OtherOption, Stray}
-use Rattle.negotiation.specs.declared.Side.{Side}
-use Rattle.negotiation.specs.declared.Side.the-variants.{Echo, BulletinSga, Rcte, Macro, PrinterSga, Returns, Uncarried}
+use Rattle.negotiation.specs.declared.Side.the-variants.{Rcte}
 use Rattle.negotiation.specs.declared.Standing.{Standing}
 use Rattle.negotiation.specs.Table.{isYes}
 use Rattle.negotiation.specs.declared.Sides.{Sides}
 use Rattle.negotiation.specs.Carried.{moved}
-use Rattle.printer.specs.State.{Printer, Did, sends, nothing, followed, rcteOn, withSides}
+use Rattle.printer.specs.State.{Printer, Did, nothing, followed, rcteOn, withSides}
 use Rattle.printer.specs.Network.{rcteMoved, sideMoved, byteRead, bytesRead}
 
 first-assoc : (a b c : Note) → firstNote (firstNote a b) c ≡ firstNote a (firstNote b c)
@@ -38,10 +37,6 @@ text-next acc text i lt =
     rw (drop-cons text i 0 lt, add-one i)
     (sym (followed-assoc acc (byteRead (acc .state) (getD text i 0)) (bytesRead (byteRead (acc .state) (getD text i 0) .state) (drop (suc i) text))))
 
--- before the first byte
-pub text-begun : (s : Printer) (text : List ℕ) → followed (nothing s) (bytesRead s text) ≡ bytesRead s text
-text-begun s text = refl
-
 first-clear : (n : Note) → firstNote n Clear ≡ n
 first-clear Clear = refl
 first-clear Unreadable = refl
@@ -49,10 +44,14 @@ first-clear Inactive = refl
 first-clear OtherOption = refl
 first-clear Stray = refl
 
--- behind the last
+-- a step behind which nothing happens
+pub followed-nothing : (d : Did) → followed d (nothing (d .state)) ≡ d
+followed-nothing d = rw (first-clear (d .note), append-nil (d .paper), append-nil (d .wire), append-nil (d .taken))
+
+-- behind the last byte
 pub text-done : (acc : Did) → followed acc (bytesRead (acc .state) []) ≡ acc
 unfolding bytesRead
-text-done acc = rw (first-clear (acc .note), append-nil (acc .paper), append-nil (acc .wire), append-nil (acc .taken))
+text-done acc = followed-nothing acc
 
 -- RCTE leaves YES
 pub rcte-ends : (s : Printer) (q : Standing) (x : Sides) → rcteOn s ≡ true → isYes q ≡ false → x ≡ moved (s .sides) Rcte q

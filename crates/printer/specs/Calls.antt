@@ -1,13 +1,12 @@
 -- The printer end's calls: each a total function of the state, its arguments and the sizes of the two lent buffers.
-use mathlib.Core.Bool.{Bool, true, false, _&&_, not}
-use mathlib.Core.List.{List, [], _∷_}
+use mathlib.Core.Bool.{Bool, false, _&&_, not}
+use mathlib.Core.List.{[], _∷_}
 use Prim.Native.Nat.{ℕ}
 use lib.ListN.{length}
 use lib.Dec.{eqb}
 use Rattle.lists.specs.Choice.{pick}
-use Rattle.codes.specs.Answers.{noRoom, Guard, when, guarded}
+use Rattle.codes.specs.Answers.{noRoom, when, guarded}
 use Rattle.codes.specs.Telnet.{DR, plainCommand}
-use Rattle.codes.specs.declared.Code.{Code}
 use Rattle.codes.specs.declared.Code.the-variants.{NoRoom, QueueFull, BadCommand, AlreadySo, NotInForce, BadValue}
 use Rattle.codes.specs.declared.Note.the-variants.{Clear}
 use Rattle.codes.specs.declared.Whose.{Whose}

@@ -1,14 +1,19 @@
 -- The printer end as the code keeps it: its view, its clean cells, and how a step and an answer of the code meet the rules.
 use mathlib.Core.Path.{_≡_}
-use mathlib.Core.Bool.{Bool, true, false}
-use mathlib.Core.List.{List, [], _++_}
+use mathlib.Core.Bool.{Bool, not, _&&_, _||_}
+use mathlib.Core.List.{List}
 use Prim.Native.Nat.{ℕ}
-use lib.ListN.{take}
+use lib.ListN.{length, take}
 use Rattle.lists.specs.Buffers.{Wrote}
 use Rattle.codes.specs.declared.Code.{Code}
 use Rattle.codes.specs.declared.Code.the-variants.{Done}
 use Rattle.codes.specs.declared.Note.{Note}
 use Rattle.codes.specs.declared.Note.the-variants.{Clear}
+use Rattle.reader.specs.declared.Phase.{Phase}
+use Rattle.reader.specs.Reading.{bodyRoom, isData}
+use Rattle.macros.specs.Texts.{textRoom}
+use Rattle.echo.specs.Taking.{gatherRoom}
+use Rattle.echo.specs.Control.{waitRoom}
 use Rattle.reader.specs.Kept.{viewReader, CleanReader}
 use Rattle.macros.specs.Packed.{viewTexts, CleanTexts}
 use Rattle.echo.specs.View.{viewEcho, CleanEcho}
@@ -19,6 +24,8 @@ use Rattle.macros.specs.declared.Text.{Text}
 use Rattle.reader.specs.declared.Item.the-variants.{BodyEnd}
 use Rattle.negotiation.specs.declared.Side.{Side}
 use Rattle.negotiation.specs.declared.Standing.{Standing}
+use Rattle.negotiation.specs.declared.Sides.{Sides}
+use Rattle.negotiation.specs.Table.{isYes, stillOn}
 use Rattle.negotiation.specs.Carried.{moved}
 use Rattle.printer.specs.State.{Printer, Did, Answer, fresh}
 use Rattle.printer.specs.Network.{itemRead}
@@ -30,6 +37,13 @@ pub record CleanPrinter (p : code-printer.Printer) : Type 0 where
   pub reader : CleanReader (p .reader)
   pub table : CleanTexts (p .table)
   pub echo : CleanEcho (p .echo)
+
+-- the arrays have the lengths of their types
+pub record Whole (p : code-printer.Printer) : Type 0 where
+  pub body : length (p .reader .body) ≡ bodyRoom
+  pub cells : length (p .table .cells) ≡ textRoom
+  pub waiting : length (p .echo .waiting) ≡ waitRoom
+  pub gathered : length (p .echo .gathered) ≡ gatherRoom
 
 -- the bytes that were written to the two lent buffers, from what they held to what they hold
 pub record WroteTo (d : Did) (held held′ lay lay′ : List ℕ) (n m : ℕ) : Type 0 where
@@ -51,6 +65,7 @@ pub record MetAnswer (a : Answer) (p : code-printer.Printer) (held held′ lay l
   pub wrote : WroteTo (a .did) held held′ lay lay′ (r .paper) (r .wire)
   pub view : viewPrinter (r .state) ≡ a .did .state
   pub clean : CleanPrinter p → CleanPrinter (r .state)
+  pub whole : Whole p → Whole (r .state)
   pub same : (a .code ≡ Done → ⊥) → r .state ≡ p
 
 -- the code's answers: a refusal, with the state that was given and nothing written, and a step that was done
@@ -83,6 +98,10 @@ pub record MetWire (d : Did) (p : code-printer.Printer) (lay lay′ : List ℕ) 
 pub record MetPaper (d : Did) (p : code-printer.Printer) (held held′ : List ℕ) (r : Step) : Type 0 where
   pub met : (lay : List ℕ) → MetStep d p held held′ lay lay r
 
+-- a byte that is data, with no macro to replace it and no RCTE to hold behind it
+abbrev pub isOrdinary : Sides → Phase → ℕ → Bool
+isOrdinary sides phase b = not (stillOn (sides .bm) || isYes (sides .rcte)) && isData phase b
+
 -- the text that a copy has
 abbrev pub textIn : Text → List ℕ
 textIn t = take (t .len) (t .bytes)
@@ -94,3 +113,4 @@ bodyEndRead s = itemRead s BodyEnd
 pub record MetFresh (p : code-printer.Printer) : Type 0 where
   pub view : viewPrinter p ≡ fresh
   pub clean : CleanPrinter p
+  pub whole : Whole p

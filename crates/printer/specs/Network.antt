@@ -1,12 +1,11 @@
 -- A network byte at the printer end.
-use mathlib.Core.Bool.{Bool, true, false, _&&_, not}
-use mathlib.Core.List.{List, [], _∷_, _++_}
+use mathlib.Core.Bool.{Bool, true, false, _&&_}
+use mathlib.Core.List.{List, [], _∷_}
 use Prim.Native.Nat.{ℕ}
 use lib.ListN.{drop}
 use lib.Dec.{eqb}
 use Rattle.lists.specs.Choice.{pick}
 use Rattle.codes.specs.Telnet.{RCTE, NAOCRD, BM, DS, whoseOf, enables}
-use Rattle.codes.specs.declared.Note.{Note}
 use Rattle.codes.specs.declared.Note.the-variants.{Unreadable, Inactive, OtherOption, Stray}
 use Rattle.codes.specs.declared.Verb.{Verb}
 use Rattle.codes.specs.declared.Whose.{Whose}
@@ -20,7 +19,6 @@ use Rattle.reader.specs.declared.Item.the-variants.{Nothing, Data, Negotiated, 
 use Rattle.reader.specs.Reading.{Read, idle, read, byOption, isBetween}
 use Rattle.bodies.specs.declared.RcteBody.{RcteBody}
 use Rattle.bodies.specs.declared.MacroBody.{MacroBody}
-use Rattle.bodies.specs.declared.MacroCommand.{MacroCommand}
 use Rattle.bodies.specs.declared.MacroCommand.the-variants.{Define, Literal}
 use Rattle.bodies.specs.declared.ValueBody.{ValueBody}
 use Rattle.bodies.specs.RcteBodies.{rcteBody}

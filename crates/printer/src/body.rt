@@ -1,14 +1,13 @@
 // A subnegotiation's body at the printer end.
-ghost use mathlib.Core.Path.{_≡_};
-ghost use Prim.Native.Nat.{_≤_, _<_};
-ghost use lib.ListN.{length, drop, getD};
+ghost use Prim.Native.Nat.{_≤_};
+ghost use lib.ListN.{length, getD};
 ghost use Rattle.lists.specs.Buffers.{RoomFor};
 ghost use Rattle.bodies.specs.RcteBodies.{rcteBody};
 ghost use Rattle.bodies.specs.MacroBodies.{macroBody};
 ghost use Rattle.bodies.specs.ValueBodies.{valueBody};
 ghost use Rattle.codes.specs.Telnet.{DS};
 ghost use Rattle.macros.specs.Texts.{judged, verdictBytes};
-ghost use Rattle.printer.specs.Network.{dataRead, rcteRead, valueRead, defineRead, macroRead, optionRead, bodyRead};
+ghost use Rattle.printer.specs.Network.{rcteRead, valueRead, defineRead, macroRead, optionRead, bodyRead};
 ghost use Rattle.reader.specs.Kept.{viewReader};
 ghost use Rattle.printer.specs.Kept.{viewPrinter, bodyEndRead, MetStep, MetQuietly, MetWire};
 use crate::Printer;

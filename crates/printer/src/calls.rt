@@ -6,7 +6,7 @@ ghost use Rattle.echo.specs.Control.{isFull};
 ghost use Rattle.printer.specs.State.{rcteOn};
 ghost use Rattle.printer.specs.Calls.{networkCall, keyCall, keyTyped, badKey, askCall, suggestCall, returnsReport};
 ghost use Rattle.lists.specs.Buffers.{RoomFor};
-ghost use Rattle.printer.specs.Kept.{viewPrinter, MetAnswer, MetStep, MetFresh, refusal, answered};
+ghost use Rattle.printer.specs.Kept.{Whole, viewPrinter, MetAnswer, MetStep, MetFresh, refusal, answered};
 use crate::Answer;
 use crate::Printer;
 use crate::Step;
@@ -52,7 +52,7 @@ fn refused(s: Printer, code: Code) -> Answer
 }
 
 fn done(step: Step) -> Answer
-    ensures { λ r. ⌜ r ≡ answered step ⌝ }
+    ensures { λ r. ⌜ (r ≡ answered step) × Whole (step .state) ⌝ }
 {
     let state = step.state;
     let note = step.note;
@@ -70,6 +70,19 @@ pub fn network_byte(s: Printer, b: u8, paper: &mut [u8], wire: &mut [u8]) -> Ans
 {
     if codes::no_room(paper.len(), wire.len()) {
         return refused(s, Code::NoRoom);
+    }
+    let sides = s.sides;
+    let reading = s.reader;
+    let phase = reading.phase;
+    if network::is_ordinary(sides, phase, b) {
+        paper[0] = b;
+        return Answer {
+            code: Code::Done,
+            note: Note::Clear,
+            paper: 1,
+            wire: 0,
+            state: s,
+        };
     }
     let step = network::network_read(s, b, paper, wire);
     done(step)

@@ -1,5 +1,4 @@
 // Negotiation: what is heard, and what follows as a side's standing changes.
-ghost use mathlib.Core.Path.{_≡_};
 ghost use Rattle.lists.specs.Buffers.{RoomFor};
 ghost use Rattle.negotiation.specs.Carried.{replyBytes};
 ghost use Rattle.negotiation.specs.declared.Side.the-variants.{Rcte, Macro, Returns};

@@ -4,7 +4,7 @@ ghost use Prim.Native.Nat.{_≤_};
 ghost use Rattle.lists.specs.Buffers.{RoomFor};
 ghost use Rattle.printer.specs.Network.{dataRead, itemRead, byteRead, bytesRead, entryRead, networkRead};
 ghost use Rattle.macros.specs.Texts.{entryOf};
-ghost use Rattle.printer.specs.Kept.{viewPrinter, MetStep, MetPaper, textIn};
+ghost use Rattle.printer.specs.Kept.{viewPrinter, MetStep, MetPaper, textIn, isOrdinary};
 use crate::Printer;
 use crate::Step;
 use crate::body;
@@ -12,7 +12,22 @@ use crate::moves;
 use crate::on;
 use codes::Note;
 use macros::Text;
+use negotiation::Sides;
 use reader::Item;
+use reader::Phase;
+
+// Data that is printed and changes nothing: the state is then handed on without a copy of any part.
+pub fn is_ordinary(sides: Sides, phase: Phase, b: u8) -> bool
+    ensures { λ r. ⌜ r ≡ isOrdinary sides phase b ⌝ }
+{
+    if on::macros(sides) {
+        return false;
+    }
+    if on::rcte(sides) {
+        return false;
+    }
+    reader::is_data(phase, b)
+}
 
 // Data is printed as it is; under RCTE it then holds.
 pub fn data_read(s: Printer, b: u8, paper: &mut [u8]) -> Step
@@ -21,10 +36,10 @@ pub fn data_read(s: Printer, b: u8, paper: &mut [u8]) -> Step
 {
     paper[0] = b;
     let sides = s.sides;
-    let mut t = s;
     if on::rcte(sides) {
         let control = s.echo;
         let held = echo::holding(control);
+        let mut t = s;
         t.echo = held;
         return Step {
             note: Note::Clear,
@@ -37,7 +52,7 @@ pub fn data_read(s: Printer, b: u8, paper: &mut [u8]) -> Step
         note: Note::Clear,
         paper: 1,
         wire: 0,
-        state: t,
+        state: s,
     }
 }
 
@@ -56,13 +71,17 @@ fn item_read(s: Printer, item: Item, paper: &mut [u8], wire: &mut [u8]) -> Step
     }
 }
 
-// A byte read as it stands.
+// A byte read as it stands. One that is data leaves the reader as it is, so that the state is not copied for it.
 pub fn byte_read(s: Printer, b: u8, paper: &mut [u8], wire: &mut [u8]) -> Step
     requires { ⌜ RoomFor (byteRead (viewPrinter s) b .paper) (now paper) ⌝ }
     requires { ⌜ RoomFor (byteRead (viewPrinter s) b .wire) (now wire) ⌝ }
     ensures { λ r. ⌜ MetStep (byteRead (viewPrinter s) b) s (now (paper .entry)) (now (paper .exit)) (now (wire .entry)) (now (wire .exit)) r ⌝ }
 {
     let old = s.reader;
+    let phase = old.phase;
+    if reader::is_data(phase, b) {
+        return data_read(s, b, paper);
+    }
     let read = reader::read_byte(old, b);
     let item = read.item;
     let next = read.reader;
@@ -131,7 +150,8 @@ pub fn network_read(s: Printer, b: u8, paper: &mut [u8], wire: &mut [u8]) -> Ste
         return byte_read(s, b, paper, wire);
     }
     let reading = s.reader;
-    if !reader::is_between(reading) {
+    let phase = reading.phase;
+    if !reader::is_between(phase) {
         return byte_read(s, b, paper, wire);
     }
     defined_read(s, b, paper, wire)

@@ -9,7 +9,6 @@ use Rattle.lists.specs.Choice.{pick}
 use Rattle.lists.proofs.Uniform.{getD-uniform}
 use Rattle.codes.specs.Telnet.{IAC}
 use Rattle.wire.specs.Frames.{coded, literal}
-use Rattle.macros.specs.Texts.{text}
 use Rattle.definitions.specs.Sending.{Sent, free, pending, pendingFree, accepted, refused, noDefinitions, sentOf, isFree, stored, dataBytes}
 use Rattle.printer.specs.State as P
 use Rattle.printer.specs.Network.{networkRead, byteRead}
@@ -17,7 +16,8 @@ use Rattle.bulletin.specs.State as B
 use Rattle.read_back.specs.ReadBack.{Agreed, ReadAs, MacroReadBack}
 use Rattle.read_back.proofs.Sessions.{IacFree}
 use Rattle.read_back.proofs.Steps.{steps, last, readAll-steps}
-use Rattle.read_back.proofs.Bytes.{inside, standing, without, replaced, coded-read, literal-read, stored-read}
+use Rattle.read_back.proofs.Bytes.{replaced, coded-read, literal-read, stored-read}
+use Rattle.printer.proofs.Choosing.{plain-read, off-read, inside-read}
 
 free-is : (e : Sent) → isFree e ≡ true → e ≡ free
 free-is free h = refl
@@ -32,22 +32,22 @@ coded-bare x k = rw k
 
 module _ (b : B.Bulletin) (iac : IacFree b) where
   pub iac-stands : (p : P.Printer) → Agreed b p → networkRead p IAC ≡ byteRead p IAC
-  iac-stands p a = standing p IAC (a .none IAC iac)
+  iac-stands p a = plain-read p IAC (a .none IAC iac)
 
   -- a byte other than 255: bare where it is free or BM is not in force, else as LITERAL
   module _ (p : P.Printer) (a : Agreed b p) (x : ℕ) (k : eqb x IAC ≡ false) where
     bare-read : networkRead p x ≡ byteRead p x → ReadAs (x ∷ []) p (steps networkRead p (x ∷ []))
-    bare-read e = rw (coded-bare x k) at (coded-read networkRead inside p x (a .between) e)
+    bare-read e = rw (coded-bare x k) at (coded-read networkRead inside-read p x (a .between) e)
 
     free-or-not : (t : Bool) → isFree (sentOf (b .table) x) ≡ t → B.macrosOn b ≡ true
         → ReadAs (x ∷ []) p (steps networkRead p (pick t (x ∷ []) (literal x)))
-    free-or-not true e m = bare-read (standing p x (a .none x (free-is (sentOf (b .table) x) e)))
+    free-or-not true e m = bare-read (plain-read p x (a .none x (free-is (sentOf (b .table) x) e)))
     free-or-not false e m = literal-read p x (a .between) (iac-stands p a) (sym (a .macros) ∙ m) k
 
     on-or-off : (t : Bool) → B.macrosOn b ≡ t
         → ReadAs (x ∷ []) p (steps networkRead p (pick (isFree (sentOf (pick t (b .table) noDefinitions) x)) (x ∷ []) (literal x)))
     on-or-off true m = free-or-not (isFree (sentOf (b .table) x)) refl m
-    on-or-off false m = rw (getD-uniform 256 x free) (bare-read (without p x (sym (a .macros) ∙ m)))
+    on-or-off false m = rw (getD-uniform 256 x free) (bare-read (off-read p x (sym (a .macros) ∙ m)))
 
   pub byte-read : (p : P.Printer) → Agreed b p → (x : ℕ)
       → ReadAs (x ∷ []) p (steps networkRead p (dataBytes (B.definitionsNow b) x))
@@ -58,7 +58,7 @@ module _ (b : B.Bulletin) (iac : IacFree b) where
       bytes = pick (isFree (sentOf (B.definitionsNow b) x)) (x ∷ []) (literal x)
 
       go : (t : Bool) → eqb x IAC ≡ t → ReadAs (x ∷ []) p (steps networkRead p (pick t (coded x) bytes))
-      go true e = coded-read networkRead inside p x (a .between) (rw (eqb-true x IAC e) (iac-stands p a))
+      go true e = coded-read networkRead inside-read p x (a .between) (rw (eqb-true x IAC e) (iac-stands p a))
       go false e = on-or-off p a x e (B.macrosOn b) refl
 
 pub macro-read-back : MacroReadBack

@@ -1,6 +1,6 @@
 -- One data byte read: bare, doubled, or as LITERAL; and a macro's stored text.
 use mathlib.Core.Path.{_≡_, refl, _∙_}
-use mathlib.Core.Bool.{Bool, true, false, _&&_, and-eq-true-iff}
+use mathlib.Core.Bool.{Bool, true, false, and-eq-true-iff}
 use mathlib.Core.List.{List, [], _∷_, _++_}
 use Prim.Native.Nat.{ℕ, _<_}
 use native.Mathlib.Omega.{arith}
@@ -15,11 +15,12 @@ use Rattle.reader.specs.declared.Phase.{Phase}
 use Rattle.reader.specs.declared.Phase.the-variants.{Between, AfterIac, InBody, InBodyAfterIac}
 use Rattle.reader.specs.Reading.{Reader, inPhase, isBetween, read, commandRead, bodyCommandRead, keeping, byOption, bodyRoom, idle}
 use Rattle.bodies.specs.MacroBodies.{macroBody}
-use Rattle.macros.specs.Texts.{entryOf, plain, text}
+use Rattle.macros.specs.Texts.{entryOf, text}
 use Rattle.printer.specs.State.{Printer, Did, nothing, withReader, rcteOn, macrosOn}
-use Rattle.printer.specs.Network.{networkRead, byteRead, bytesRead, entryRead, dataRead, optionRead, bodyRead}
+use Rattle.printer.specs.Network.{networkRead, byteRead, bytesRead, dataRead, optionRead, bodyRead}
 use Rattle.read_back.specs.ReadBack.{ReadAs}
 use Rattle.read_back.proofs.Steps.{steps, silent, last, all-read, none-read, bytesRead-steps}
+use Rattle.printer.proofs.Choosing.{inside-read}
 
 pick-same : {X : Type 0} (t : Bool) (x : X) → pick t x x ≡ x
 pick-same true x = refl
@@ -79,24 +80,6 @@ byte-command p c h =
     let past : (n : ℕ) → 249 < n → eqb c n ≡ false = λ n k. apart c n h k in
     rw (past 255 (lit< tt), past 250 (lit< tt), past 251 (lit< tt), past 252 (lit< tt), past 253 (lit< tt), past 254 (lit< tt), h)
 
--- no replacement inside a command
-pub inside : (p : Printer) (b : ℕ) → isBetween (p .reader .phase) ≡ false → networkRead p b ≡ byteRead p b
-unfolding networkRead
-inside p b h = rw h (go (macrosOn p))
-  where
-    go : (t : Bool) → pick (t && false) (entryRead p b (entryOf (p .table) b)) (byteRead p b) ≡ byteRead p b
-    go true = refl
-    go false = refl
-
--- none of a byte that stands for itself, and none with BM not in force
-pub standing : (p : Printer) (b : ℕ) → entryOf (p .table) b ≡ plain → networkRead p b ≡ byteRead p b
-unfolding networkRead
-standing p b h = rw h (pick-same (macrosOn p && isBetween (p .reader .phase)) (byteRead p b))
-
-pub without : (p : Printer) (b : ℕ) → macrosOn p ≡ false → networkRead p b ≡ byteRead p b
-unfolding networkRead
-without p b h = rw h
-
 -- with BM in force, between commands, a defined byte is replaced
 pub replaced : (p : Printer) (b : ℕ) (t : List ℕ) → macrosOn p ≡ true → Ready p → entryOf (p .table) b ≡ text t
     → networkRead p b ≡ bytesRead p t
@@ -131,7 +114,7 @@ command-read p c h e k =
     rw (
       silent networkRead p (at p AfterIac) IAC (c ∷ []) (e ∙ byte-iac p h),
       last networkRead (at p AfterIac) c,
-      inside (at p AfterIac) c refl,
+      inside-read (at p AfterIac) c refl,
       byte-command p c k,
     )
     (none-read p (inPhase (p .reader) Between) refl (idle-at p))
@@ -165,7 +148,7 @@ kept-se p x m k = rw (m, k)
 -- a byte inside a command that completes nothing
 inner : (p q : Printer) (x : ℕ) (xs : List ℕ) → isBetween (p .reader .phase) ≡ false → byteRead p x ≡ nothing q
     → steps networkRead p (x ∷ xs) ≡ steps networkRead q xs
-inner p q x xs h e = silent networkRead p q x xs (inside p x h ∙ e)
+inner p q x xs h e = silent networkRead p q x xs (inside-read p x h ∙ e)
 
 pub literal-read : (p : Printer) (x : ℕ) → Ready p → networkRead p IAC ≡ byteRead p IAC → macrosOn p ≡ true → eqb x IAC ≡ false
     → ReadAs (x ∷ []) p (steps networkRead p (literal x))
@@ -181,7 +164,7 @@ literal-read p x h e m k =
       inner (kept p lit InBody) (kept p all InBody) x _ refl (kept-byte p lit x k refl),
       inner (kept p all InBody) (kept p all InBodyAfterIac) IAC _ refl (kept-iac p all),
       last networkRead (kept p all InBodyAfterIac) SE,
-      inside (kept p all InBodyAfterIac) SE refl,
+      inside-read (kept p all InBodyAfterIac) SE refl,
       kept-se p x m k,
     )
     (data-read p idle x refl (λ i. refl))

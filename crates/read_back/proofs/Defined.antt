@@ -17,20 +17,21 @@ use Rattle.reader.specs.Reading.{keeping, commandRead, bodyCommandRead, read, b
 use Rattle.reader.specs.declared.Phase.the-variants.{Between}
 use Rattle.bodies.specs.MacroBodies.{macroBody, replyBody}
 use Rattle.macros.specs.Texts.{Entry, plain, text, noMacros, entryOf, total, defined, judged}
-use Rattle.definitions.specs.Sending.{Sent, free, accepted, noDefinitions, sentOf, stored, sentTotal, defining, isTooLong, defineBytes}
+use Rattle.definitions.specs.Sending.{Sent, free, accepted, noDefinitions, sentOf, stored, sentTotal, defining, isTooLong, defineBytes, dataBytes}
+use Rattle.disposition.specs.Returns.{itemData}
 use Rattle.printer.specs.State as P
 use Rattle.printer.specs.Network as PN
 use Rattle.bulletin.specs.State as B
 use Rattle.bulletin.specs.Network as BN
 use Rattle.bulletin.specs.Calls as BC
 use Rattle.bulletin.specs.Session as BS
-use Rattle.read_back.specs.ReadBack.{readAll, stateAfter, reached}
+use Rattle.read_back.specs.ReadBack.{readAll, allData, stateAfter, reached}
 use Rattle.read_back.specs.Defined as D
-use Rattle.read_back.proofs.Sent.{free-alone}
+use Rattle.read_back.proofs.Sent.{free-alone, all-read-back}
 
 -- the rules, opened for computation
 unfoldable opened : Unit {0}
-unfolding sum joined guarded coded frame printerSide clashes askedSide heardBy askedBy heard asked keeping commandRead bodyCommandRead read byOption macroBody replyBody total defined judged sentTotal defining isTooLong defineBytes PN.dataRead PN.sideMoved PN.sideHeard PN.negotiationRead PN.optionRead PN.bodyRead PN.byteRead PN.bytesRead PN.networkRead BN.dataRead BN.sideMoved BN.sideHeard BN.negotiationRead BN.optionRead BN.bodyRead BN.networkRead BC.networkCall BC.askCall BC.defineCall BS.called BS.answersFrom readAll stateAfter
+unfolding sum joined guarded coded frame printerSide clashes askedSide heardBy askedBy heard asked keeping commandRead bodyCommandRead read byOption macroBody replyBody total defined judged sentTotal defining isTooLong defineBytes PN.dataRead PN.sideMoved PN.sideHeard PN.negotiationRead PN.optionRead PN.bodyRead PN.byteRead PN.bytesRead PN.networkRead BN.dataRead BN.sideMoved BN.sideHeard BN.negotiationRead BN.optionRead BN.bodyRead BN.networkRead BC.networkCall BC.askCall BC.defineCall BC.useCall BC.textCall BC.itemSent BC.textData BC.useData itemData dataBytes BS.called BS.answersFrom readAll stateAfter allData
 opened = tt
 
 wire-is : D.across .wire ≡ D.agrees ++ D.accepts
@@ -103,4 +104,14 @@ defined-agree = record {
     same = rw (here-is, there-is) same-there;
     none = rw (here-is, there-is) none-there;
   };
+}
+
+pub defined-read-back : D.DefinedReadBack
+unfolding opened
+defined-read-back = record {
+  defines = refl;
+  wire = refl;
+  dataSent = refl;
+  paper = refl;
+  back = all-read-back D.calls (D.across .state) (defined-agree .agreed) D.sendings;
 }

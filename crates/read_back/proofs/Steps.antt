@@ -1,50 +1,16 @@
 -- Bytes read one after the other, by networkRead or by another rule for one byte.
 use mathlib.Core.Path.{_≡_, refl, sym}
 use mathlib.Core.Bool.{Bool, true, false}
-use mathlib.Core.List.{List, [], _∷_, _++_, append-assoc, append-nil}
+use mathlib.Core.List.{List, [], _∷_, _++_}
 use Prim.Native.Nat.{ℕ}
 use Rattle.lists.specs.Lists.{joined}
-use Rattle.codes.specs.Answers.{firstNote}
-use Rattle.codes.specs.declared.Note.{Note}
-use Rattle.codes.specs.declared.Note.the-variants.{Clear, Unreadable, Inactive, OtherOption, Stray}
 use Rattle.reader.specs.declared.Phase.the-variants.{Between}
 use Rattle.reader.specs.Reading.{Reader, idle}
 use Rattle.echo.specs.Control.{Echo}
 use Rattle.printer.specs.State.{Printer, Did, nothing, followed, withReader, rcteOn}
 use Rattle.printer.specs.Network.{networkRead, byteRead, bytesRead}
 use Rattle.read_back.specs.ReadBack.{readAll, ReadAs, echoAfter}
-
-first-assoc : (l m n : Note) → firstNote l (firstNote m n) ≡ firstNote (firstNote l m) n
-first-assoc Clear m n = refl
-first-assoc Unreadable m n = refl
-first-assoc Inactive m n = refl
-first-assoc OtherOption m n = refl
-first-assoc Stray m n = refl
-
-followed-assoc : (d e g : Did) → followed d (followed e g) ≡ followed (followed d e) g
-followed-assoc d e g i = record {
-  note = first-assoc (d .note) (e .note) (g .note) i;
-  paper = sym (append-assoc (d .paper) (e .paper) (g .paper)) i;
-  wire = sym (append-assoc (d .wire) (e .wire) (g .wire)) i;
-  taken = sym (append-assoc (d .taken) (e .taken) (g .taken)) i;
-  state = g .state;
-}
-
-first-clear : (n : Note) → firstNote n Clear ≡ n
-first-clear Clear = refl
-first-clear Unreadable = refl
-first-clear Inactive = refl
-first-clear OtherOption = refl
-first-clear Stray = refl
-
-followed-nothing : (d : Did) → followed d (nothing (d .state)) ≡ d
-followed-nothing d i = record {
-  note = first-clear (d .note) i;
-  paper = append-nil (d .paper) i;
-  wire = append-nil (d .wire) i;
-  taken = append-nil (d .taken) i;
-  state = d .state;
-}
+use Rattle.printer.proofs.Steps.{followed-assoc, followed-nothing}
 
 echo-after : (rcte : Bool) (x y : List ℕ) (e : Echo) → echoAfter rcte y (echoAfter rcte x e) ≡ echoAfter rcte (x ++ y) e
 echo-after rcte [] y e = refl
@@ -89,7 +55,7 @@ module _ (f : Printer → ℕ → Did) where
   pub steps-append : (u v : List ℕ) (p : Printer) → steps p (u ++ v) ≡ followed (steps p u) (steps (steps p u .state) v)
   unfolding steps
   steps-append [] v p = refl
-  steps-append (x ∷ u) v p = rw (steps-append u v (f p x .state)) (followed-assoc (f p x) (steps (f p x .state) u) _)
+  steps-append (x ∷ u) v p = rw (steps-append u v (f p x .state)) (sym (followed-assoc (f p x) (steps (f p x .state) u) _))
 
   -- a byte that completes nothing
   pub silent : (p q : Printer) (x : ℕ) (xs : List ℕ) → f p x ≡ nothing q → steps p (x ∷ xs) ≡ steps q xs

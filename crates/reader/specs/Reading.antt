@@ -1,12 +1,11 @@
 -- One byte read: what it completes and where the reader then stands.
-use mathlib.Core.Bool.{Bool, true, false}
+use mathlib.Core.Bool.{Bool, true, false, not, _&&_}
 use mathlib.Core.List.{List, [], _∷_, _++_}
 use Prim.Native.Nat.{ℕ}
 use lib.ListN.{length}
 use lib.Dec.{ltb, eqb}
-use Rattle.lists.specs.Choice.{pick, between}
+use Rattle.lists.specs.Choice.{pick}
 use Rattle.codes.specs.Telnet.{IAC, SB, SE, plainCommand}
-use Rattle.codes.specs.declared.Verb.{Verb}
 use Rattle.codes.specs.declared.Verb.the-variants.{Will, Wont, Do, Dont}
 use Rattle.reader.specs.declared.Phase.{Phase}
 use Rattle.reader.specs.declared.Phase.the-variants.{Between, AfterIac, AfterVerb, InBody, InBodyAfterIac}
@@ -78,6 +77,10 @@ isBetween AfterIac = false
 isBetween (AfterVerb v) = false
 isBetween InBody = false
 isBetween InBodyAfterIac = false
+
+-- a byte that is data as it stands: no command is being read, and it begins none
+abbrev pub isData : Phase → ℕ → Bool
+isData p b = not (eqb b IAC) && isBetween p
 
 -- the first check on a body: one that is marred or empty is unreadable; another is handled by its option, its first byte
 unfoldable pub byOption : {D : Type 0} → Bool → List ℕ → D → (ℕ → D) → D

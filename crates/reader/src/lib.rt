@@ -1,7 +1,7 @@
 // Reading the wire: bytes to items. The reader knows no macro and no option.
 ghost use mathlib.Core.Path.{_≡_};
 ghost use Prim.Native.Nat.{min};
-ghost use Rattle.reader.specs.Reading.{inPhase, gives, keeping, marring, commandRead, bodyCommandRead, readIn, read, isBetween};
+ghost use Rattle.reader.specs.Reading.{inPhase, gives, keeping, marring, commandRead, bodyCommandRead, readIn, read, isBetween, isData};
 ghost use Rattle.reader.specs.Kept.{viewReader, MetIdle, MetRead};
 use codes::DO;
 use codes::DONT;
@@ -59,10 +59,9 @@ pub fn idle() -> Reader
     }
 }
 
-pub fn is_between(r: Reader) -> bool
-    ensures { λ b. ⌜ b ≡ isBetween (r .phase) ⌝ }
+pub fn is_between(phase: Phase) -> bool
+    ensures { λ r. ⌜ r ≡ isBetween phase ⌝ }
 {
-    let phase = r.phase;
     match phase {
         Phase::Between => true,
         Phase::AfterIac => false,
@@ -122,6 +121,16 @@ fn marred(r: Reader) -> Read
             len: r.len,
         },
     }
+}
+
+// A byte that is data as it stands, for which the reader need not be asked.
+pub fn is_data(phase: Phase, b: u8) -> bool
+    ensures { λ r. ⌜ r ≡ isData phase b ⌝ }
+{
+    if b == IAC {
+        return false;
+    }
+    is_between(phase)
 }
 
 fn text_byte(r: Reader, b: u8) -> Read

@@ -1,5 +1,5 @@
 -- Clean states with the same view.
-use mathlib.Core.Path.{_≡_, refl, sym, ap, ap₂, _∙_}
+use mathlib.Core.Path.{_≡_, refl, sym, ap, ap₂, subst, _∙_}
 use mathlib.Core.List.{List, [], _∷_, _++_, map, map-append, map-map}
 use Prim.Native.Nat.{ℕ, zero, suc, min, _-_}
 use native.Mathlib.Omega.{arith}
@@ -15,7 +15,11 @@ use Rattle.echo.specs.Taking.{gatherRoom}
 use Rattle.echo.specs.Control.{waitRoom}
 use Rattle.echo.specs.declared.Echo.{Echo}
 use Rattle.echo.specs.View.{viewEcho, CleanEcho}
-use Rattle.runs.specs.Determined.{CountIsWaiting, DeterminedToTheByte}
+use Rattle.printer.specs.State.{Answer}
+use Rattle.printer.specs.Session.{Call, session}
+use Rattle.runs.specs.Runs.{Made, Beside, AsRuled}
+use Rattle.runs.specs.Determined.{CountIsWaiting, DeterminedToTheByte, SameState, SameCallsSameStates}
+use Rattle.runs.proofs.Session.{run-is-session}
 
 map-id : {X : Type 0} (xs : List X) → map (λ x. x) xs ≡ xs
 map-id [] = refl
@@ -95,3 +99,12 @@ determined-to-the-byte p q sp sq cp cq e =
     let echo = same-echo (p .echo) (q .echo) (sp .waiting) (sq .waiting) (sp .gathered) (sq .gathered) (cp .echo) (cq .echo) (ap (λ v. v .echo) e) in
     let values = ap (λ v. v .values) e in
     λ i. record { sides = sides i; reader = reader i; table = table i; echo = echo i; values = values i }
+
+both-ruled : {xs : List Answer} {ms ns : List Made} → Beside AsRuled xs ms → Beside AsRuled xs ns → Beside SameState ms ns
+both-ruled Beside.none Beside.none = Beside.none
+both-ruled (Beside.more r rs) (Beside.more t ts) =
+    Beside.more (determined-to-the-byte _ _ (r .whole) (t .whole) (r .clean) (t .clean) (r .view ∙ sym (t .view))) (both-ruled rs ts)
+
+pub same-calls-same-states : SameCallsSameStates
+same-calls-same-states ms ns f g e =
+    both-ruled (run-is-session ms f) (subst (λ (cs : List Call). Beside AsRuled (session cs) ns) (sym e) (run-is-session ns g))

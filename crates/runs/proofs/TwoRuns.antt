@@ -45,7 +45,7 @@ same-shown {a} {b} {m} {n} r s t =
       bytes = same-bytes (t .paper) (r .paper) (s .paper);
       paper = same-cells (t .paper) (r .paper) (s .paper);
       waiting = waiting;
-      counted = λ x y. count-is-waiting (m .answer .state) x (r .clean) ∙ waiting ∙ sym (count-is-waiting (n .answer .state) y (s .clean));
+      counted = count-is-waiting (m .answer .state) (r .whole) (r .clean) ∙ waiting ∙ sym (count-is-waiting (n .answer .state) (s .whole) (s .clean));
     }
 
 same-size : {a b : Answer} {m n : Made} → AsRuled a m → AsRuled b n → SameSent a b → SameSize m n

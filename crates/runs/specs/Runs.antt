@@ -8,7 +8,7 @@ use Rattle.keys.specs.declared.Key.{Key}
 use Rattle.printer.specs.State.{Answer}
 use Rattle.printer.specs.Calls.{waitingCount}
 use Rattle.printer.specs.Session.{Call, called, session}
-use Rattle.printer.specs.Kept.{viewPrinter, CleanPrinter, MetAnswer, MetFresh}
+use Rattle.printer.specs.Kept.{viewPrinter, CleanPrinter, Whole, MetAnswer, MetFresh}
 use Rattle.printer.specs.declared.Printer as code-printer
 use Rattle.printer.specs.declared.Answer as code-answer
 
@@ -71,6 +71,7 @@ pub record AsRuled (a : Answer) (m : Made) : Type 0 where
   pub view : viewPrinter (m .answer .state) ≡ a .did .state
   pub waiting : waitingCount (viewPrinter (m .answer .state)) ≡ waitingCount (a .did .state)
   pub clean : CleanPrinter (m .answer .state)
+  pub whole : Whole (m .answer .state)
 
 -- a run from a fresh end gives the answers of the rules' session over the same arguments and sizes
 abbrev pub RunIsSession : Type 0

@@ -7,7 +7,6 @@ use Rattle.printer.specs.Calls.{waitingCount}
 use Rattle.printer.specs.Kept.{viewPrinter}
 use Rattle.secrecy.specs.TwoSessions.{Agree, QuietIn, EvenIn}
 use Rattle.runs.specs.Runs.{Made, callsOf, RunFromFresh, Beside}
-use Rattle.runs.specs.Determined.{Sized}
 
 -- the same code, note, paper bytes and number of waiting keys, in the view and as the struct counts them; equal paper buffers
 -- are still equal
@@ -18,7 +17,7 @@ pub record SameShown (m n : Made) : Type 0 where
   pub bytes : take (m .answer .paper) (m .paperAfter) ≡ take (n .answer .paper) (n .paperAfter)
   pub paper : m .paper ≡ n .paper → m .paperAfter ≡ n .paperAfter
   pub waiting : waitingCount (viewPrinter (m .answer .state)) ≡ waitingCount (viewPrinter (n .answer .state))
-  pub counted : Sized (m .answer .state) → Sized (n .answer .state) → m .answer .state .echo .count ≡ n .answer .state .echo .count
+  pub counted : m .answer .state .echo .count ≡ n .answer .state .echo .count
 
 -- equally many wire bytes, and equal lent buffers are still equal behind the bytes that were written
 pub record SameSize (m n : Made) : Type 0 where

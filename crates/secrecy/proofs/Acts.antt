@@ -4,6 +4,9 @@ use mathlib.Core.Bool.{Bool, true, false}
 use mathlib.Core.List.{List, [], _++_}
 use Prim.Native.Nat.{ℕ}
 use Rattle.codes.specs.declared.Note.{Note}
+use Rattle.negotiation.specs.declared.Sides.{Sides}
+use Rattle.negotiation.specs.Table.{isYes}
+use Rattle.negotiation.specs.Apart.{Apart}
 use Rattle.bodies.specs.declared.RcteCommand.{RcteCommand}
 use Rattle.echo.specs.Control.{Echo, Echoed, started, holding, commanded, ended}
 use Rattle.printer.specs.State.{Printer, withEcho, rcteOn, Did}
@@ -38,9 +41,10 @@ acted (both x y) e = let d = acted x e in andThen d (acted y (d .echo))
 abbrev pub didOf : Note → Printer → Echoed → Did
 didOf n s x = record { note = n; paper = x .paper; wire = x .wire; taken = x .taken; state = withEcho s (x .echo) }
 
--- a step, begun with RCTE in force or not, of which all but the state of RCTE is known beforehand
-pub record Planned (on : Bool) (step : Echo → Did) : Type 0 where
+-- a step, begun with these sides, of which all but the state of RCTE is known beforehand; it keeps ECHO and RCTE apart
+pub record Planned (sides : Sides) (step : Echo → Did) : Type 0 where
   pub note : Note
   pub others : Printer
-  pub acts : Acts on (rcteOn others)
+  pub apart : Apart sides → Apart (others .sides)
+  pub acts : Acts (isYes (sides .rcte)) (rcteOn others)
   pub does : (e : Echo) → step e ≡ didOf note others (acted acts e)

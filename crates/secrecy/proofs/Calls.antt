@@ -15,6 +15,8 @@ use Rattle.codes.specs.declared.Note.{Note}
 use Rattle.codes.specs.declared.Note.the-variants.{Clear}
 use Rattle.keys.specs.declared.Key.{Key}
 use Rattle.keys.specs.Keys.{keyWire}
+use Rattle.negotiation.specs.declared.Sides.{Sides}
+use Rattle.negotiation.specs.Table.{isYes}
 use Rattle.echo.specs.Taking.{sentPaper}
 use Rattle.echo.specs.Control.{Echo, Echoed, waitRoom, isFull, pressed}
 use Rattle.printer.specs.State.{Printer, withEcho, rcteOn, echoOn, echoing, Answer, done, refused}
@@ -72,8 +74,8 @@ kept n ms g g′ c i s t = record {
   };
 }
 
-planned-kept : (n : Later) {ms : List Bool} {on : Bool} {call : Echo → Answer} → Answered on call
-    → (e f : Echo) → Waits on e → Related ms e f
+planned-kept : (n : Later) {ms : List Bool} {x : Sides} {call : Echo → Answer} → Answered x call
+    → (e f : Echo) → Waits (isYes (x .rcte)) e → Related ms e f
     → Quiets n ms (call e .did .taken) (call f .did .taken) → Kept n ms (e .gathered) (f .gathered) (call e) (call f)
 unfolding answer
 planned-kept n {ms} r e f w a =

@@ -1,5 +1,5 @@
 -- Every call but a key call is planned: only its acts touch the state of RCTE.
-use mathlib.Core.Path.{_≡_, refl, sym, ap, _∙_}
+use mathlib.Core.Path.{_≡_, refl, sym, ap, subst, _∙_}
 use mathlib.Core.Bool.{Bool, true, false, _&&_, not}
 use mathlib.Core.List.{List, [], _∷_, _++_}
 use Prim.Native.Nat.{ℕ}
@@ -16,10 +16,12 @@ use Rattle.codes.specs.declared.Verb.{Verb}
 use Rattle.negotiation.specs.declared.Standing.{Standing}
 use Rattle.negotiation.specs.declared.Side.{Side}
 use Rattle.negotiation.specs.declared.Side.the-variants.{Echo, BulletinSga, Rcte, Macro, PrinterSga, Returns, Uncarried}
+use Rattle.negotiation.specs.declared.Sides.{Sides}
 use Rattle.negotiation.specs.declared.Asked.{Asked}
 use Rattle.negotiation.specs.declared.Asked.the-variants.{Already, Moves}
 use Rattle.negotiation.specs.Table.{isYes, stillOn, heard, asked}
-use Rattle.negotiation.specs.Carried.{printerSide, moved, isCarried, free, standing, declined, replyBytes, heardBy, askedTo, askedBy, askedWhose, askedSide, askedEnable, askGuards}
+use Rattle.negotiation.specs.Carried.{printerSide, moved, isCarried, free, standing, clashes, declined, replyBytes, heardBy, askedTo, askedBy, askedWhose, askedSide, askedEnable, askGuards}
+use Rattle.negotiation.specs.Apart.{Apart}
 use Rattle.reader.specs.declared.Item.{Item}
 use Rattle.reader.specs.declared.Item.the-variants.{Nothing, Data, Negotiated, BodyEnd, StrayCommand}
 use Rattle.reader.specs.Reading.{Reader, idle, read, byOption, isBetween}
@@ -38,72 +40,85 @@ use Rattle.printer.specs.Network.{dataRead, rcteMoved, sideMoved, replied, side
 use Rattle.printer.specs.Calls.{networkCall, askCall, suggestCall}
 use Rattle.printer.specs.Session.{called}
 use Rattle.printer.specs.Session.Call.{network, ask, suggest}
+use Rattle.codes.proofs.Guards.{NoneHolds}
+use Rattle.negotiation.proofs.Apart.{heard-keeps-apart, asked-keeps-apart}
 use Rattle.secrecy.proofs.Acts.{acted, didOf, Planned}
 use Rattle.secrecy.proofs.Acts.Acts.{puts, holds, starts, ends, commands, both}
 
--- a step from the state s with the note n and bytes, which leaves t with RCTE as it was
-plain-step : (s t : Printer) → rcteOn s ≡ rcteOn t → (n : Note) (paper wire : List ℕ)
-    → Planned (rcteOn s) (λ e. record { note = n; paper = paper; wire = wire; taken = []; state = withEcho t e })
-unfolding acted
-plain-step s t p n paper wire = record { note = n; others = t; acts = puts p paper wire; does = λ e. refl }
+-- ECHO and RCTE are apart in t if they are in s
+abbrev KeepsApart : Printer → Printer → Type 0
+KeepsApart s t = Apart (s .sides) → Apart (t .sides)
 
-either : {on : Bool} (b : Bool) {x y : EchoState → Did} → Planned on x → Planned on y → Planned on (λ e. pick b (x e) (y e))
+-- a step from the state s with the note n and bytes, which leaves t with RCTE as it was
+moved-step : (s t : Printer) → KeepsApart s t → rcteOn s ≡ rcteOn t → (n : Note) (paper wire : List ℕ)
+    → Planned (s .sides) (λ e. record { note = n; paper = paper; wire = wire; taken = []; state = withEcho t e })
+unfolding acted
+moved-step s t k p n paper wire = record { note = n; others = t; apart = k; acts = puts p paper wire; does = λ e. refl }
+
+-- .. and with all sides as they were
+plain-step : (s t : Printer) → s .sides ≡ t .sides → (n : Note) (paper wire : List ℕ)
+    → Planned (s .sides) (λ e. record { note = n; paper = paper; wire = wire; taken = []; state = withEcho t e })
+plain-step s t p n paper wire = moved-step s t (λ a. subst Apart p a) (ap (λ x. isYes (x .rcte)) p) n paper wire
+
+either : {x : Sides} (b : Bool) {d e : EchoState → Did} → Planned x d → Planned x e → Planned x (λ s. pick b (d s) (e s))
 either true p q = p
 either false p q = q
 
-data-read : (s : Printer) (b : ℕ) → Planned (rcteOn s) (λ e. dataRead (withEcho s e) b)
+data-read : (s : Printer) (b : ℕ) → Planned (s .sides) (λ e. dataRead (withEcho s e) b)
 unfolding dataRead acted
 data-read s b = go (rcteOn s) refl
   where
-    go : (on : Bool) → rcteOn s ≡ on → Planned (rcteOn s) (λ e. printing (b ∷ []) (pick on (withEcho s (holding e)) (withEcho s e)))
-    go true p = record { note = Clear; others = s; acts = holds p p (b ∷ []); does = λ e. refl }
+    go : (on : Bool) → rcteOn s ≡ on → Planned (s .sides) (λ e. printing (b ∷ []) (pick on (withEcho s (holding e)) (withEcho s e)))
+    go true p = record { note = Clear; others = s; apart = λ a. a; acts = holds p p (b ∷ []); does = λ e. refl }
     go false p = plain-step s s refl Clear (b ∷ []) []
 
-rcte-moved : (s t : Printer) (reply : List ℕ) (on still : Bool) → rcteOn s ≡ on → rcteOn t ≡ still
-    → Planned (rcteOn s) (λ e. behind reply (rcteMoved on still (withEcho t e)))
+rcte-moved : (s t : Printer) → KeepsApart s t → (reply : List ℕ) (on still : Bool) → rcteOn s ≡ on → rcteOn t ≡ still
+    → Planned (s .sides) (λ e. behind reply (rcteMoved on still (withEcho t e)))
 unfolding acted
-rcte-moved s t reply true true p q = plain-step s t (p ∙ sym q) Clear [] (reply ++ [])
-rcte-moved s t reply true false p q = record { note = Clear; others = t; acts = ends p q reply (echoOn t); does = λ e. refl }
-rcte-moved s t reply false true p q = record { note = Clear; others = t; acts = starts p q (reply ++ []); does = λ e. refl }
-rcte-moved s t reply false false p q = plain-step s t (p ∙ sym q) Clear [] (reply ++ [])
+rcte-moved s t k reply true true p q = moved-step s t k (p ∙ sym q) Clear [] (reply ++ [])
+rcte-moved s t k reply true false p q = record { note = Clear; others = t; apart = k; acts = ends p q reply (echoOn t); does = λ e. refl }
+rcte-moved s t k reply false true p q = record { note = Clear; others = t; apart = k; acts = starts p q (reply ++ []); does = λ e. refl }
+rcte-moved s t k reply false false p q = moved-step s t k (p ∙ sym q) Clear [] (reply ++ [])
 
-side-moved : (s : Printer) (side : Side) (q : Standing) (reply : List ℕ) → Planned (rcteOn s) (λ e. replied (withEcho s e) side q reply)
+side-moved : (s : Printer) (side : Side) (q : Standing) (reply : List ℕ) → (Apart (s .sides) → Apart (moved (s .sides) side q))
+    → Planned (s .sides) (λ e. replied (withEcho s e) side q reply)
 unfolding sideMoved
-side-moved s Rcte q reply = rcte-moved s (withSides s (moved (s .sides) Rcte q)) reply (rcteOn s) (isYes q) refl refl
-side-moved s Macro q reply =
-    plain-step s (withTable (withSides s (moved (s .sides) Macro q)) (pick (stillOn q) (s .table) noMacros)) refl Clear [] (reply ++ [])
-side-moved s Returns q reply =
-    plain-step s (withValues (withSides s (moved (s .sides) Returns q)) (pick (isYes q) (s .values) unspoken)) refl Clear [] (reply ++ [])
-side-moved s Echo q reply = plain-step s (withSides s (moved (s .sides) Echo q)) refl Clear [] (reply ++ [])
-side-moved s BulletinSga q reply = plain-step s (withSides s (moved (s .sides) BulletinSga q)) refl Clear [] (reply ++ [])
-side-moved s PrinterSga q reply = plain-step s (withSides s (moved (s .sides) PrinterSga q)) refl Clear [] (reply ++ [])
-side-moved s Uncarried q reply = plain-step s s refl Clear [] (reply ++ [])
+side-moved s Rcte q reply k = rcte-moved s (withSides s (moved (s .sides) Rcte q)) k reply (rcteOn s) (isYes q) refl refl
+side-moved s Macro q reply k =
+    moved-step s (withTable (withSides s (moved (s .sides) Macro q)) (pick (stillOn q) (s .table) noMacros)) k refl Clear [] (reply ++ [])
+side-moved s Returns q reply k =
+    moved-step s (withValues (withSides s (moved (s .sides) Returns q)) (pick (isYes q) (s .values) unspoken)) k refl Clear [] (reply ++ [])
+side-moved s Echo q reply k = moved-step s (withSides s (moved (s .sides) Echo q)) k refl Clear [] (reply ++ [])
+side-moved s BulletinSga q reply k = moved-step s (withSides s (moved (s .sides) BulletinSga q)) k refl Clear [] (reply ++ [])
+side-moved s PrinterSga q reply k = moved-step s (withSides s (moved (s .sides) PrinterSga q)) k refl Clear [] (reply ++ [])
+side-moved s Uncarried q reply k = plain-step s s refl Clear [] (reply ++ [])
 
-negotiation-read : (s : Printer) (v : Verb) (option : ℕ) → Planned (rcteOn s) (λ e. negotiationRead (withEcho s e) v option)
+negotiation-read : (s : Printer) (v : Verb) (option : ℕ) → Planned (s .sides) (λ e. negotiationRead (withEcho s e) v option)
 unfolding negotiationRead sideHeard heardBy
 negotiation-read s v option =
     let side = printerSide (whoseOf v) option in
     let h = heard (enables v) (free (s .sides) side) (standing (s .sides) side) in
-    either (isCarried side) (side-moved s side (h .next) (replyBytes (whoseOf v) (h .reply) option))
+    either (isCarried side)
+    (side-moved s side (h .next) (replyBytes (whoseOf v) (h .reply) option) (heard-keeps-apart (s .sides) side (enables v)))
     (plain-step s s refl Clear [] (replyBytes (whoseOf v) (declined (enables v)) option))
 
-rcte-read : (s : Printer) (b : RcteBody) → rcteOn s ≡ true → Planned (rcteOn s) (λ e. rcteRead (withEcho s e) b)
+rcte-read : (s : Printer) (b : RcteBody) → rcteOn s ≡ true → Planned (s .sides) (λ e. rcteRead (withEcho s e) b)
 unfolding acted
 rcte-read s RcteBody.Unreadable p = plain-step s s refl Unreadable [] []
-rcte-read s (RcteBody.Readable c) p = record { note = Clear; others = s; acts = commands p p c; does = λ e. refl }
+rcte-read s (RcteBody.Readable c) p = record { note = Clear; others = s; apart = λ a. a; acts = commands p p c; does = λ e. refl }
 
-macro-read : (s : Printer) (body : List ℕ) (b : MacroBody) → Planned (rcteOn s) (λ e. macroRead (withEcho s e) body b)
+macro-read : (s : Printer) (body : List ℕ) (b : MacroBody) → Planned (s .sides) (λ e. macroRead (withEcho s e) body b)
 macro-read s body MacroBody.Unreadable = plain-step s s refl Unreadable [] []
 macro-read s body (MacroBody.Readable (Define x)) =
     let v = judged (s .table) x (defineRest body) in
     plain-step s (withTable s (afterDefine v (s .table) x (drop 1 (defineRest body)))) refl Clear [] (verdictBytes v x)
 macro-read s body (MacroBody.Readable (Literal x)) = data-read s x
 
-value-read : (s : Printer) (b : ValueBody) → Planned (rcteOn s) (λ e. valueRead (withEcho s e) b)
+value-read : (s : Printer) (b : ValueBody) → Planned (s .sides) (λ e. valueRead (withEcho s e) b)
 value-read s ValueBody.Unreadable = plain-step s s refl Unreadable [] []
 value-read s (ValueBody.Readable v) = plain-step s (withValues s (withDs (s .values) v)) refl Clear [] []
 
-option-read : (s : Printer) (option : ℕ) (body : List ℕ) → Planned (rcteOn s) (λ e. optionRead (withEcho s e) option body)
+option-read : (s : Printer) (option : ℕ) (body : List ℕ) → Planned (s .sides) (λ e. optionRead (withEcho s e) option body)
 unfolding optionRead
 option-read s option body =
     either (eqb option RCTE) (go (rcteOn s) refl)
@@ -111,96 +126,100 @@ option-read s option body =
     (either (eqb option BM) (either (macrosOn s) (macro-read s body (macroBody body)) (says Inactive))
     (says OtherOption)))
   where
-    says : (n : Note) → Planned (rcteOn s) (λ e. notes n (withEcho s e))
+    says : (n : Note) → Planned (s .sides) (λ e. notes n (withEcho s e))
     says n = plain-step s s refl n [] []
 
     go : (on : Bool) → rcteOn s ≡ on
-        → Planned (rcteOn s) (λ e. pick on (rcteRead (withEcho s e) (rcteBody body)) (notes Inactive (withEcho s e)))
+        → Planned (s .sides) (λ e. pick on (rcteRead (withEcho s e) (rcteBody body)) (notes Inactive (withEcho s e)))
     go true p = rcte-read s (rcteBody body) p
     go false p = says Inactive
 
-body-read : (s : Printer) (marred : Bool) (body : List ℕ) → Planned (rcteOn s) (λ e. bodyRead (withEcho s e) marred body)
+body-read : (s : Printer) (marred : Bool) (body : List ℕ) → Planned (s .sides) (λ e. bodyRead (withEcho s e) marred body)
 unfolding bodyRead byOption
 body-read s true body = plain-step s s refl Unreadable [] []
 body-read s false [] = plain-step s s refl Unreadable [] []
 body-read s false (option ∷ rest) = option-read s option (option ∷ rest)
 
 -- the state s has the reader as the byte found it, r as it left it
-item-read : (s : Printer) (r : Reader) (i : Item) → Planned (rcteOn s) (λ e. itemRead (withReader (withEcho s e) r) i)
+item-read : (s : Printer) (r : Reader) (i : Item) → Planned (s .sides) (λ e. itemRead (withReader (withEcho s e) r) i)
 item-read s r Nothing = plain-step s (withReader s r) refl Clear [] []
 item-read s r (Data b) = data-read (withReader s r) b
 item-read s r (Negotiated v option) = negotiation-read (withReader s r) v option
 item-read s r BodyEnd = body-read (withReader s idle) (r .marred) (r .body)
 item-read s r StrayCommand = plain-step s (withReader s r) refl Stray [] []
 
-byte-read : (s : Printer) (b : ℕ) → Planned (rcteOn s) (λ e. byteRead (withEcho s e) b)
+byte-read : (s : Printer) (b : ℕ) → Planned (s .sides) (λ e. byteRead (withEcho s e) b)
 unfolding byteRead
 byte-read s b = let r = read (s .reader) b in item-read s (r .reader) (r .item)
 
 -- one step after another
-in-turn : {on : Bool} {x : EchoState → Did} (p : Planned on x) (y : Printer → Did)
-    → Planned (rcteOn (p .others)) (λ e. y (withEcho (p .others) e))
-    → Planned on (λ e. followed (x e) (y (x e .state)))
+in-turn : {sides : Sides} {x : EchoState → Did} (p : Planned sides x) (y : Printer → Did)
+    → Planned (p .others .sides) (λ e. y (withEcho (p .others) e))
+    → Planned sides (λ e. followed (x e) (y (x e .state)))
 unfolding acted
-in-turn {on} {x} p y q = record {
+in-turn {sides} {x} p y q = record {
   note = firstNote (p .note) (q .note);
   others = q .others;
+  apart = λ a. q .apart (p .apart a);
   acts = both (p .acts) (q .acts);
   does = λ e.
       let x = acted (p .acts) e in
       ap (λ d. followed d (y (d .state))) (p .does e) ∙ ap (λ d. followed (didOf (p .note) (p .others) x) d) (q .does (x .echo));
 }
 
-bytes-read : (s : Printer) (bs : List ℕ) → Planned (rcteOn s) (λ e. bytesRead (withEcho s e) bs)
+bytes-read : (s : Printer) (bs : List ℕ) → Planned (s .sides) (λ e. bytesRead (withEcho s e) bs)
 unfolding bytesRead acted
 bytes-read s [] = plain-step s s refl Clear [] []
 bytes-read s (b ∷ bs) =
     let p = byte-read s b in
     in-turn p (λ t. bytesRead t bs) (bytes-read (p .others) bs)
 
-network-read : (s : Printer) (b : ℕ) → Planned (rcteOn s) (λ e. networkRead (withEcho s e) b)
+network-read : (s : Printer) (b : ℕ) → Planned (s .sides) (λ e. networkRead (withEcho s e) b)
 unfolding networkRead
 network-read s b = either (macrosOn s && isBetween (s .reader .phase)) (entry (entryOf (s .table) b)) (byte-read s b)
   where
-    entry : (x : Entry) → Planned (rcteOn s) (λ e. entryRead (withEcho s e) b x)
+    entry : (x : Entry) → Planned (s .sides) (λ e. entryRead (withEcho s e) b x)
     entry plain = byte-read s b
     entry (text t) = bytes-read s t
 
 -- an answer whose code, too, is known beforehand
-pub record Answered (on : Bool) (call : EchoState → Answer) : Type 0 where
+pub record Answered (sides : Sides) (call : EchoState → Answer) : Type 0 where
   pub code : Code
   pub says : (e : EchoState) → call e .code ≡ code
-  pub step : Planned on (λ e. call e .did)
+  pub step : Planned sides (λ e. call e .did)
 
-guarded-step : (s : Printer) (gs : List Guard) {x : EchoState → Did} → Planned (rcteOn s) x
-    → Answered (rcteOn s) (λ e. guarded gs (refused (withEcho s e)) (done (x e)))
+guarded-step : (s : Printer) (gs : List Guard) {x : EchoState → Did} → (NoneHolds gs → Planned (s .sides) x)
+    → Answered (s .sides) (λ e. guarded gs (refused (withEcho s e)) (done (x e)))
 unfolding guarded
-guarded-step s [] p = record { code = Done; says = λ e. refl; step = p }
-guarded-step s (g ∷ gs) {x} p = go (g .holds) (guarded-step s gs p)
+guarded-step s [] p = record { code = Done; says = λ e. refl; step = p tt }
+guarded-step s (g ∷ gs) {x} p = go (g .holds) (λ h. guarded-step s gs (λ n. p (h, n)))
   where
-    go : (b : Bool) → Answered (rcteOn s) (λ e. guarded gs (refused (withEcho s e)) (done (x e)))
-        → Answered (rcteOn s) (λ e. pick b (refused (withEcho s e) (g .code)) (guarded gs (refused (withEcho s e)) (done (x e))))
+    go : (b : Bool) → (b ≡ false → Answered (s .sides) (λ e. guarded gs (refused (withEcho s e)) (done (x e))))
+        → Answered (s .sides) (λ e. pick b (refused (withEcho s e) (g .code)) (guarded gs (refused (withEcho s e)) (done (x e))))
     go true q = record { code = g .code; says = λ e. refl; step = plain-step s s refl Clear [] [] }
-    go false q = q
+    go false q = q refl
 
-pub network-call : (s : Printer) (b paper wire : ℕ) → Answered (rcteOn s) (λ e. called (withEcho s e) (network b paper wire))
+pub network-call : (s : Printer) (b paper wire : ℕ) → Answered (s .sides) (λ e. called (withEcho s e) (network b paper wire))
 unfolding called networkCall
-network-call s b paper wire = guarded-step s (when (noRoom paper wire) NoRoom ∷ []) (network-read s b)
+network-call s b paper wire = guarded-step s (when (noRoom paper wire) NoRoom ∷ []) (λ n. network-read s b)
 
-pub ask-call : (s : Printer) (option way paper wire : ℕ) → Answered (rcteOn s) (λ e. called (withEcho s e) (ask option way paper wire))
+pub ask-call : (s : Printer) (option way paper wire : ℕ) → Answered (s .sides) (λ e. called (withEcho s e) (ask option way paper wire))
 unfolding called askCall askedBy
 ask-call s option way paper wire =
     let side = askedSide printerSide option way in
     guarded-step s (when (noRoom paper wire) NoRoom ∷ askGuards (s .sides) side (askedEnable way))
-    (go side (asked (askedEnable way) (standing (s .sides) side)))
+    (λ n. go side (n .1 .1 .0) (asked (askedEnable way) (standing (s .sides) side)) refl)
   where
-    go : (side : Side) (a : Asked)
-        → Planned (rcteOn s) (λ e. askedTo (s .sides) (askedWhose way) option side (askedEnable way)
+    go : (side : Side) → clashes (s .sides) side (askedEnable way) ≡ false
+        → (a : Asked) → asked (askedEnable way) (standing (s .sides) side) ≡ a
+        → Planned (s .sides) (λ e. askedTo (s .sides) (askedWhose way) option side (askedEnable way)
         (λ q reply. replied (withEcho s e) side q reply) (nothing (withEcho s e)) a)
-    go side Already = plain-step s s refl Clear [] []
-    go side (Moves q r) = side-moved s side q (replyBytes (askedWhose way) r option)
+    go side c Already m = plain-step s s refl Clear [] []
+    go side c (Moves q r) m =
+        side-moved s side q (replyBytes (askedWhose way) r option)
+        (λ a. asked-keeps-apart (s .sides) side (askedEnable way) q r a c m)
 
-pub suggest-call : (s : Printer) (v paper wire : ℕ) → Answered (rcteOn s) (λ e. called (withEcho s e) (suggest v paper wire))
+pub suggest-call : (s : Printer) (v paper wire : ℕ) → Answered (s .sides) (λ e. called (withEcho s e) (suggest v paper wire))
 unfolding called suggestCall
 suggest-call s v paper wire =
     guarded-step s
@@ -209,4 +228,4 @@ suggest-call s v paper wire =
     ∷ when (isBadValue v) BadValue
     ∷ when (eqb v (s .values .dr)) AlreadySo
     ∷ [])
-    (plain-step s (withValues s (withDr (s .values) v)) refl Clear [] (suggestion DR v))
+    (λ n. plain-step s (withValues s (withDr (s .values) v)) refl Clear [] (suggestion DR v))

@@ -1,9 +1,10 @@
--- Laws of every session: which keys wait, and in which order keys are taken up.
+-- Laws of every session: which keys wait, in which order keys are taken up, and that ECHO and RCTE stay apart.
 use mathlib.Core.Path.{_≡_}
 use mathlib.Core.Bool.{true, false}
 use mathlib.Core.List.{List, [], _∷_, _++_, map}
 use Rattle.lists.specs.Lists.{joined}
 use Rattle.keys.specs.declared.Key.{Key}
+use Rattle.negotiation.specs.Apart.{Apart}
 use Rattle.printer.specs.State.{Printer, fresh, rcteOn}
 use Rattle.printer.specs.Session.{Call, called, session}
 use Rattle.printer.specs.Session.Call.{network, key, ask, suggest}
@@ -35,3 +36,7 @@ pub record Waiting (s : Printer) : Type 0 where
 
 abbrev pub WaitingHeld : Type 0
 WaitingHeld = (cs : List Call) → Waiting (stateAfter fresh cs)
+
+-- ECHO and RCTE are never both away from NO; as every first part of a list is a list, they are not at any call
+abbrev pub StayApart : Type 0
+StayApart = (cs : List Call) → Apart (stateAfter fresh cs .sides)

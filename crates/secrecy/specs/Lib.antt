@@ -1,2 +1,3 @@
 pub mod TwoSessions
 pub mod Laws
+pub mod Lent

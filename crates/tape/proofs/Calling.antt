@@ -6,10 +6,8 @@ use native.Mathlib.Omega.{arith}
 use lib.Dec.{eqb}
 use lib.ListN.{length}
 use Rattle.lists.specs.Choice.{pick}
-use Rattle.lists.proofs.Lengths.{either}
 use Rattle.codes.specs.Answers.{codeNumber}
 use Rattle.codes.specs.declared.Code.the-variants.{BadCommand}
-use Rattle.keys.specs.declared.Key.{Key}
 use Rattle.keys.specs.declared.Key.the-variants.{Char, Line, Command}
 use Rattle.printer.specs.State.{Printer, refused}
 use Rattle.printer.specs.Calls.{keyCall}

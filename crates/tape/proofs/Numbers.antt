@@ -1,7 +1,6 @@
 -- A run stays within its tape.
-use mathlib.Core.Bool.{Bool, true, false}
 use mathlib.Core.List.{List}
-use Prim.Native.Nat.{ℕ, _+_, _≤_, _<_}
+use Prim.Native.Nat.{ℕ, _+_, _≤_}
 use native.Mathlib.Omega.{arith}
 use borrow.Author.Tests.{ltb-false}
 use lib.Dec.{ltb}
@@ -9,7 +8,6 @@ use lib.ListN.{length}
 use Rattle.lists.proofs.Lengths.{chosen, either}
 use Rattle.tape.specs.declared.Found.{Found}
 use Rattle.tape.specs.declared.Found.the-variants.{Field, End, Bad}
-use Rattle.tape.specs.declared.Place.{Place}
 use Rattle.tape.specs.Fields.{foundAt}
 use Rattle.tape.specs.Steps.{width, At, Going, isOver, isTooLong, restAt, pastItem, fieldStep, goingStep, stepped}
 use Rattle.tape.specs.Numbers.{Within, StartWithin, StepWithin, NumbersRead}

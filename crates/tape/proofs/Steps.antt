@@ -1,5 +1,5 @@
 -- A step prints what comes next of what remains, and something less is ahead after it.
-use mathlib.Core.Path.{_≡_, refl, sym, ap, _∙_}
+use mathlib.Core.Path.{_≡_, refl, sym, _∙_}
 use mathlib.Core.Bool.{Bool, true, false, _&&_, _||_, false≢true}
 use mathlib.Core.List.{List, [], _∷_, _++_, append-assoc, append-nil, map}
 use Prim.Native.Nat.{ℕ, zero, suc, _+_, _-_, _≤_, _<_}
@@ -17,7 +17,7 @@ use Rattle.tape.specs.declared.Found.the-variants.{Field, End, Bad}
 use Rattle.tape.specs.declared.Place.{Place}
 use Rattle.tape.specs.Fields.{Item, networkByte, keyPair, askPair, headSize, tagAt, sizeAt, isKnown, isWhole, foundAt, partOf, pairs, itemsOf}
 use Rattle.tape.specs.Lines.{answerLine, badTape}
-use Rattle.tape.specs.Running.{Run, begun, lentFor, itemAnswer, afterItem, itemsRun, fieldRun, fieldsRun, tapeRoom, printed}
+use Rattle.tape.specs.Running.{Run, lentFor, itemAnswer, afterItem, itemsRun, fieldRun, fieldsRun, printed}
 use Rattle.tape.specs.Steps.{width, itemOf, At, isOver, isTooLong, restAt, goingOn, remaining, Going, ended, pastItem, itemStep, fieldStep, goingStep, goes, stepped, StartPrints, StepPrints, ahead, StepFalls}
 use Rattle.tape.proofs.Counted.{enough}
 

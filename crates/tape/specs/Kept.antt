@@ -2,7 +2,6 @@
 use mathlib.Core.Path.{_≡_}
 use mathlib.Core.List.{List}
 use Prim.Native.Nat.{ℕ, _-_}
-use lib.ListN.{length}
 use Rattle.lists.specs.Buffers.{Wrote}
 use Rattle.printer.specs.State as rule
 use Rattle.printer.specs.declared.Printer.{Printer}

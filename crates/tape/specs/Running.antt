@@ -6,7 +6,6 @@ use lib.Dec.{ltb, eqb}
 use Rattle.lists.specs.Choice.{pick}
 use Rattle.codes.specs.Answers.{paperRoom, wireRoom}
 use Rattle.codes.specs.declared.Code.the-variants.{BadCommand}
-use Rattle.keys.specs.declared.Key.{Key}
 use Rattle.keys.specs.declared.Key.the-variants.{Char, Line, Command}
 use Rattle.printer.specs.State.{Printer, fresh, Answer, refused}
 use Rattle.printer.specs.Calls.{networkCall, keyCall, askCall}

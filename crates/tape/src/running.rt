@@ -5,7 +5,6 @@ ghost use mathlib.Core.Bool.{false};
 ghost use lib.Dec.{ltb};
 ghost use lib.ListN.{length, getD};
 ghost use Rattle.lists.specs.Choice.{pick};
-ghost use Rattle.printer.specs.Kept.{CleanPrinter};
 ghost use Rattle.tape.specs.Running.{lentPaper, lentWire};
 ghost use Rattle.tape.specs.Whole.{lineRoom};
 ghost use Rattle.tape.specs.Fields.{foundAt};

@@ -1,7 +1,5 @@
 // What is written on the wire: bytes with IAC doubled, negotiations, subnegotiation frames. Each encoder is handed the
 // output behind what was written so far, and writes at its beginning.
-ghost use mathlib.Core.Path.{_≡_};
-ghost use lib.ListN.{length};
 ghost use Rattle.lists.specs.Buffers.{RoomFor, Wrote};
 ghost use Rattle.keys.specs.Keys.{keyWire};
 ghost use Rattle.wire.specs.Frames.{coded, doubled, negotiation, frame, literal};

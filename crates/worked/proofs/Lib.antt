@@ -2,3 +2,4 @@ pub mod Examples
 pub mod Further
 pub mod Replaced
 pub mod Outside
+pub mod Lends

@@ -1,9 +1,24 @@
 -- The claim about two sessions, on sessions that meet its hypotheses.
-use Rattle.keys.specs.declared.Key.the-variants.{Char, Line}
+use mathlib.Core.List.{List}
+use Prim.Native.Nat.{ℕ}
+use Rattle.keys.specs.declared.Key.{Key}
 use Rattle.secrecy.specs.TwoSessions.{SameOutside}
 use Rattle.secrecy.proofs.Sessions.{two-sessions}
-use Rattle.worked.specs.Replaced.{typedUnder, lastReplaced}
+use Rattle.worked.specs.Replaced.{typed, marks, Met, Evenly, Seen, Counted, Concluded}
 use Rattle.worked.proofs.Replaced.{hypotheses-met}
 
-pub same-outside : SameOutside lastReplaced (typedUnder (Char 49)) (typedUnder Line)
-same-outside = two-sessions lastReplaced (typedUnder (Char 49)) (typedUnder Line) (hypotheses-met .agree) (hypotheses-met .quiet) (hypotheses-met .other)
+outside : {before behind : List ℕ} {k l : Key} → Met before k l behind → SameOutside (marks before behind) (typed before k behind) (typed before l behind)
+outside {before} {behind} {k} {l} m =
+    two-sessions (marks before behind) (typed before k behind) (typed before l behind) (m .agree) (m .quiet) (m .other)
+
+both : {before behind : List ℕ} {k l : Key} → Met before k l behind × Evenly before k l behind → Seen before k l behind × Counted before k l behind
+both m = let o = outside (m .0) in (o .seen, o .sent (m .1))
+
+pub concluded : Concluded
+concluded = record {
+  uneven = outside (hypotheses-met .uneven) .seen;
+  even = both (hypotheses-met .even);
+  sends = both (hypotheses-met .sends);
+  waits = both (hypotheses-met .waits);
+  stays = outside (hypotheses-met .stays) .seen;
+}

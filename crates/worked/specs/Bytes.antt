@@ -4,8 +4,7 @@ use Prim.Native.Nat.{ℕ}
 use lib.ListN.{length, drop}
 use Rattle.lists.specs.Lists.{joined}
 use Rattle.codes.specs.Answers.{codeNumber, noteNumber}
-use Rattle.keys.specs.declared.Key.{Key}
-use Rattle.keys.specs.declared.Key.the-variants.{Char, Line, Command}
+use Rattle.keys.specs.declared.Key.the-variants.{Char, Line}
 use Rattle.printer.specs.State as P
 use Rattle.printer.specs.Calls.{waitingCount}
 use Rattle.printer.specs.Session as PS

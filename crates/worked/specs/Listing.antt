@@ -1,6 +1,6 @@
 -- A tape, and the lines that it prints.
 use mathlib.Core.Path.{_≡_}
-use mathlib.Core.List.{List, [], _∷_, _++_}
+use mathlib.Core.List.{List, [], _∷_}
 use Prim.Native.Nat.{ℕ}
 use Rattle.tape.specs.Running.{printed}
 

@@ -3,7 +3,7 @@ use mathlib.Core.Path.{_≡_}
 use mathlib.Core.List.{List, [], _∷_, _++_, map}
 use Prim.Native.Nat.{ℕ}
 use Rattle.keys.specs.declared.Key.{Key}
-use Rattle.keys.specs.declared.Key.the-variants.{Char, Line, Command}
+use Rattle.keys.specs.declared.Key.the-variants.{Char, Line}
 use Rattle.keys.specs.Keys.{classOf}
 use Rattle.bulletin.specs.Session as BS
 use Rattle.worked.specs.Bytes.{reads, types, hears, paperOf, wireOf, notesOf, bulletinWireOf}

@@ -5,7 +5,6 @@ use borrow.Author.Tests.{le-leb, lt-leb}
 use Rattle.lists.specs.Choice.{between}
 use mathlib.Core.Path.{_≡_, refl}
 use native.Mathlib.Omega.{arith}
-use borrow.Author.Needs.{needs}
 use Rattle.keys.proofs.bit_of.Statement.{statement}
 use Rattle.keys.proofs.bit_of.Tie as tie
 use Rattle.keys.proofs.bit_of.Reads as reads

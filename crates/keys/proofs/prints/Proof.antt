@@ -1,6 +1,5 @@
 use Rattle.keys.specs.Keys.{prints}
-use borrow.Author.Tests.{ne-eqb, eq-eqb}
-use mathlib.Core.Path.{sym, _∙_}
+use borrow.Author.Tests.{ne-eqb}
 use borrow.Author.Needs.{needs}
 use Rattle.keys.proofs.prints.Statement.{statement}
 use Rattle.keys.proofs.prints.Tie as tie

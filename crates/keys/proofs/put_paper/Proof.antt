@@ -3,8 +3,7 @@ use Rattle.lists.proofs.Starts.{wrote-none, wrote-start}
 use Rattle.keys.specs.Keys.{keyPaper, prints}
 use lib.ListN.{length, length-set}
 use native.Mathlib.Omega.{arith}
-use mathlib.Core.Bool.{true, false}
-use mathlib.Core.Path.{_≡_, sym, _∙_}
+use mathlib.Core.Path.{sym, _∙_}
 use borrow.Author.Needs.{needs}
 use Rattle.keys.proofs.put_paper.Statement.{statement}
 use Rattle.keys.proofs.put_paper.Tie as tie

@@ -1,4 +1,3 @@
-use mathlib.Core.Path.{_≡_, refl, sym, _∙_}
 use borrow.Author.Needs.{needs}
 use Rattle.macros.proofs.put_verdict.Statement.{statement}
 use Rattle.macros.proofs.put_verdict.Tie as tie

@@ -2,7 +2,7 @@ use Rattle.lists.proofs.ReadOff.{within-after}
 use Rattle.tape.proofs.ManySteps.{ran-falls}
 use Rattle.tape.specs.Kept.{viewMachine}
 use Rattle.tape.specs.Steps.{At}
-use mathlib.Core.Path.{_≡_, ap}
+use mathlib.Core.Path.{ap}
 use lib.ListN.{length, length-take}
 use native.Mathlib.Omega.{arith}
 use borrow.Author.Needs.{needs}

@@ -1,5 +1,4 @@
 use Prim.Native.Nat.{_-_}
-use native.Mathlib.Omega.{arith}
 use borrow.Author.Needs.{needs}
 use Rattle.replays.proofs.main.Statement.{statement}
 use Rattle.replays.proofs.main.Tie as tie

@@ -5,8 +5,8 @@ use Rattle.keys.specs.Keys.{keyWire}
 use lib.ListN.{length, length-set}
 use Prim.Native.Nat.{ℕ, _≤_}
 use native.Mathlib.Omega.{arith}
-use borrow.Author.Tests.{eq-eqb, ne-eqb}
-use mathlib.Core.Path.{_≡_, refl}
+use borrow.Author.Tests.{ne-eqb}
+use mathlib.Core.Path.{_≡_}
 use borrow.Author.Needs.{needs}
 use Rattle.wire.proofs.put_char.Statement.{statement}
 use Rattle.wire.proofs.put_char.Tie as tie

@@ -7,9 +7,9 @@ use Rattle.lists.specs.Buffers.{Wrote, RoomFor}
 use borrow.Rule.Slice.PartMut.{putMid}
 use lib.Seq.{take-length}
 use lib.ListN.{length, take, drop, getD, length-append, take-append-drop}
-use Prim.Native.Nat.{ℕ, suc, _≤_, _<_, _-_, _+_}
-use mathlib.Core.List.{List, [], _++_, append-assoc}
-use mathlib.Core.Path.{_≡_, refl, sym, ap}
+use Prim.Native.Nat.{ℕ, _≤_, _<_, _-_, _+_}
+use mathlib.Core.List.{List, _++_}
+use mathlib.Core.Path.{_≡_}
 use native.Mathlib.Omega.{arith}
 use borrow.Author.Needs.{needs}
 use Rattle.wire.proofs.put_doubled.Statement.{statement}

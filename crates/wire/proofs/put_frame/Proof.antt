@@ -1,12 +1,12 @@
 use Rattle.wire.specs.Frames.{doubled, frame}
-use Rattle.lists.proofs.Parts.{wrote-then, wrote-more, same-long, part-room, counted}
+use Rattle.lists.proofs.Parts.{wrote-then, wrote-more, same-long, part-room}
 use Rattle.lists.proofs.Starts.{wrote-start}
 use Rattle.lists.specs.Buffers.{Wrote, RoomFor}
 use borrow.Rule.Slice.PartMut.{putMid}
 use lib.ListN.{length, take, drop, set, length-append, length-set}
-use Prim.Native.Nat.{ℕ, suc, _≤_, _<_, _-_, _+_}
+use Prim.Native.Nat.{ℕ, _≤_, _<_, _-_, _+_}
 use mathlib.Core.List.{List, [], _∷_, _++_, append-assoc}
-use mathlib.Core.Path.{_≡_, refl, sym, ap}
+use mathlib.Core.Path.{_≡_}
 use native.Mathlib.Omega.{arith}
 use borrow.Author.Needs.{needs}
 use Rattle.wire.proofs.put_frame.Statement.{statement}

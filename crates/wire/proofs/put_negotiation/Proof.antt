@@ -1,5 +1,5 @@
 use Rattle.lists.proofs.Starts.{wrote-start}
-use lib.ListN.{length, length-set}
+use lib.ListN.{length-set}
 use native.Mathlib.Omega.{arith}
 use borrow.Author.Needs.{needs}
 use Rattle.wire.proofs.put_negotiation.Statement.{statement}

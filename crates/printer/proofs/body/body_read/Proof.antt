@@ -1,7 +1,6 @@
 use Rattle.printer.proofs.Bodies.{body-end}
 use Rattle.printer.specs.Kept.{viewPrinter}
 use Rattle.reader.specs.Kept.{viewReader}
-use mathlib.Core.Path.{_≡_, refl, sym, _∙_}
 use borrow.Author.Needs.{needs}
 use Rattle.printer.proofs.body.body_read.Statement.{statement}
 use Rattle.printer.proofs.body.body_read.Tie as tie

@@ -1,5 +1,5 @@
 use Rattle.lists.proofs.Starts.{wrote-none}
-use mathlib.Core.Path.{_≡_, refl, sym, _∙_}
+use mathlib.Core.Path.{refl}
 use borrow.Author.Needs.{needs}
 use Rattle.printer.proofs.body.define_read.Statement.{statement}
 use Rattle.printer.proofs.body.define_read.Tie as tie

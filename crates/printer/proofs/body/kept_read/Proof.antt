@@ -3,9 +3,9 @@ use Rattle.printer.proofs.Meeting.{met-quietly}
 use Rattle.printer.specs.Network.{bodyRead}
 use Rattle.reader.specs.Reading.{byOption}
 use lib.ListN.{length, take, length-take}
-use Prim.Native.Nat.{ℕ, _≤_, min}
+use Prim.Native.Nat.{_≤_}
 use native.Mathlib.Omega.{arith}
-use mathlib.Core.Path.{_≡_, refl, sym, _∙_}
+use mathlib.Core.Path.{_≡_, refl}
 use borrow.Author.Needs.{needs}
 use Rattle.printer.proofs.body.kept_read.Statement.{statement}
 use Rattle.printer.proofs.body.kept_read.Tie as tie

@@ -3,7 +3,7 @@ use Rattle.bodies.specs.declared.MacroCommand.{MacroCommand}
 use Rattle.bodies.specs.declared.MacroBody.{MacroBody}
 use Rattle.printer.proofs.Meeting.{met-quietly}
 use native.Mathlib.Omega.{arith}
-use mathlib.Core.Path.{_≡_, refl, sym, ap, _∙_}
+use mathlib.Core.Path.{refl, sym, ap, _∙_}
 use borrow.Author.Needs.{needs}
 use Rattle.printer.proofs.body.macro_read.Statement.{statement}
 use Rattle.printer.proofs.body.macro_read.Tie as tie

@@ -1,7 +1,7 @@
 use Rattle.printer.proofs.Meeting.{met-quietly}
 use Rattle.printer.specs.Network.{optionRead}
 use borrow.Author.Tests.{ne-eqb}
-use mathlib.Core.Path.{_≡_, refl, sym, _∙_}
+use mathlib.Core.Path.{refl, sym, _∙_}
 use borrow.Author.Needs.{needs}
 use Rattle.printer.proofs.body.option_read.Statement.{statement}
 use Rattle.printer.proofs.body.option_read.Tie as tie

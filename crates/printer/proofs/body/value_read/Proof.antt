@@ -1,6 +1,5 @@
 use Rattle.printer.proofs.Meeting.{met-quietly}
-use Rattle.lists.proofs.Starts.{wrote-none}
-use mathlib.Core.Path.{_≡_, refl, sym, _∙_}
+use mathlib.Core.Path.{refl, sym, _∙_}
 use borrow.Author.Needs.{needs}
 use Rattle.printer.proofs.body.value_read.Statement.{statement}
 use Rattle.printer.proofs.body.value_read.Tie as tie

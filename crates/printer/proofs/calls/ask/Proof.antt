@@ -149,8 +149,8 @@ returns-5 c =
     let side = carried .before .before .asked-side-printer .result in
     let room = carried .before .before .before in
     let a = room .before .before .before .before .args in
-    rw (sym (room .before .no-room .ensures) ∙ room .if1 .left, ← carried .before .before .asked-side-printer .ensures, ap not (sym (carried .before .is-carried .ensures)) ∙ carried .if2 .left, ← clash .before .before .before .asked-enable .ensures, sym (clash .before .clashes .ensures) ∙ clash .if3 .left, ← told .before .before .before .standing-of .ensures, sym (told .before .before .ask .ensures) ∙ told .asked .given .1, ← call .before .before .before .asked-whose .ensures, c .done .ensures)
-    (met-done {d = replied (viewPrinter (a .s)) side (moves .0) (replyBytes whose (moves .1 .0) (a .option))} (call .replied .ensures))
+    rw (sym (room .before .no-room .ensures) ∙ room .if1 .left, ← carried .before .before .asked-side-printer .ensures, ap not (sym (carried .before .is-carried .ensures)) ∙ carried .if2 .left, ← clash .before .before .before .asked-enable .ensures, sym (clash .before .clashes .ensures) ∙ clash .if3 .left, ← told .before .before .before .standing-of .ensures, sym (told .before .before .ask .ensures) ∙ told .asked .given .1, ← call .before .before .before .asked-whose .ensures, c .done .ensures .0)
+    (met-done {d = replied (viewPrinter (a .s)) side (moves .0) (replyBytes whose (moves .1 .0) (a .option))} (call .replied .ensures) (c .done .ensures .1))
 
 pub ask-spec : {M : Type 1} → statement M
 ask-spec =

@@ -96,8 +96,8 @@ returns-4 c =
     let full = typed .before .before .before in
     let bad = full .before .before in
     let room = bad .before .before in
-    rw (sym (room .before .no-room .ensures) ∙ room .if1 .left, sym (bad .before .bad-key .ensures) ∙ bad .if2 .left, sym (full .before .queue-full .ensures) ∙ full .if3 .left, c .done .ensures)
-    (met-done (typed .key-typed .ensures))
+    rw (sym (room .before .no-room .ensures) ∙ room .if1 .left, sym (bad .before .bad-key .ensures) ∙ bad .if2 .left, sym (full .before .queue-full .ensures) ∙ full .if3 .left, c .done .ensures .0)
+    (met-done (typed .key-typed .ensures) (c .done .ensures .1))
 
 pub press-spec : {M : Type 1} → statement M
 press-spec =

@@ -117,6 +117,7 @@ returns-5 c =
       wrote = record { paper = wrote-none (a .paper .now); wire = c .before .before .before .put-suggestion .ensures };
       view = refl;
       clean = λ k. record { reader = k .reader; table = k .table; echo = k .echo };
+      whole = λ k. record { body = k .body; cells = k .cells; waiting = k .waiting; gathered = k .gathered };
       same = λ n. absurd (n refl);
     })
 

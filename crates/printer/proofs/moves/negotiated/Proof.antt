@@ -1,7 +1,7 @@
 use Rattle.printer.specs.Network.{sideHeard, negotiationRead}
 use Rattle.negotiation.specs.Carried.{heardBy}
 use Rattle.lists.proofs.Starts.{wrote-none}
-use mathlib.Core.Path.{_≡_, refl, sym, _∙_}
+use mathlib.Core.Path.{refl, sym, _∙_}
 use borrow.Author.Needs.{needs}
 use Rattle.printer.proofs.moves.negotiated.Statement.{statement}
 use Rattle.printer.proofs.moves.negotiated.Tie as tie

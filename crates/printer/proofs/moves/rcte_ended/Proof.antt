@@ -1,4 +1,4 @@
-use mathlib.Core.Path.{_≡_, refl, sym, _∙_}
+use mathlib.Core.Path.{refl}
 use borrow.Author.Needs.{needs}
 use Rattle.printer.proofs.moves.rcte_ended.Statement.{statement}
 use Rattle.printer.proofs.moves.rcte_ended.Tie as tie

@@ -2,7 +2,7 @@ use Rattle.printer.proofs.Steps.{rcte-ends}
 use Rattle.printer.specs.Kept.{viewPrinter}
 use Rattle.printer.proofs.Meeting.{met-still}
 use Rattle.printer.specs.Network.{sideMoved}
-use mathlib.Core.Path.{_≡_, refl, sym, _∙_}
+use mathlib.Core.Path.{refl, sym, _∙_}
 use borrow.Author.Needs.{needs}
 use Rattle.printer.proofs.moves.rcte_moved.Statement.{statement}
 use Rattle.printer.proofs.moves.rcte_moved.Tie as tie

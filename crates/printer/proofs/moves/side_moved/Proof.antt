@@ -1,6 +1,6 @@
 use Rattle.printer.proofs.Meeting.{met-still}
 use Rattle.printer.specs.Network.{sideMoved}
-use mathlib.Core.Path.{_≡_, refl, sym, _∙_}
+use mathlib.Core.Path.{refl}
 use borrow.Author.Needs.{needs}
 use Rattle.printer.proofs.moves.side_moved.Statement.{statement}
 use Rattle.printer.proofs.moves.side_moved.Tie as tie

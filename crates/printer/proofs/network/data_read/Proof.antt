@@ -1,8 +1,6 @@
 use Rattle.printer.specs.Network.{dataRead}
 use Rattle.lists.proofs.Starts.{wrote-none, wrote-start}
-use lib.ListN.{length-set}
-use native.Mathlib.Omega.{arith}
-use mathlib.Core.Path.{_≡_, refl, sym, _∙_}
+use mathlib.Core.Path.{refl, sym, _∙_}
 use borrow.Author.Needs.{needs}
 use Rattle.printer.proofs.network.data_read.Statement.{statement}
 use Rattle.printer.proofs.network.data_read.Tie as tie

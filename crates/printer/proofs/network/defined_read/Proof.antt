@@ -1,15 +1,14 @@
 use mathlib.Core.List.{List}
 use Rattle.printer.proofs.Views.{sized-view}
 use Rattle.printer.specs.Kept.{viewPrinter, textIn}
-use Rattle.printer.specs.Network.{byteRead, bytesRead, entryRead}
+use Rattle.printer.specs.Network.{bytesRead, entryRead}
 use Rattle.printer.specs.State.{Printer}
 use Rattle.macros.proofs.View.{text-entry, plain-entry}
 use Rattle.macros.specs.Packed.{textOf}
-use Rattle.macros.specs.Texts.{Entry, entryOf, plain, text}
-use lib.ListN.{length}
-use Prim.Native.Nat.{ℕ, _≤_}
+use Rattle.macros.specs.Texts.{Entry, entryOf, text}
+use Prim.Native.Nat.{ℕ}
 use native.Mathlib.Omega.{arith}
-use mathlib.Core.Path.{_≡_, refl, sym, ap, subst, _∙_}
+use mathlib.Core.Path.{_≡_, sym, ap, _∙_}
 use borrow.Author.Needs.{needs}
 use Rattle.printer.proofs.network.defined_read.Statement.{statement}
 use Rattle.printer.proofs.network.defined_read.Tie as tie

@@ -2,7 +2,7 @@ use Rattle.printer.proofs.Choosing.{plain-read, off-read, inside-read, 
 use Rattle.printer.specs.Kept.{viewPrinter}
 use Rattle.macros.proofs.View.{unmarked-plain}
 use borrow.Author.Tests.{not-true, not-false}
-use mathlib.Core.Path.{_≡_, refl, sym, _∙_}
+use mathlib.Core.Path.{sym, _∙_}
 use borrow.Author.Needs.{needs}
 use Rattle.printer.proofs.network.network_read.Statement.{statement}
 use Rattle.printer.proofs.network.network_read.Tie as tie

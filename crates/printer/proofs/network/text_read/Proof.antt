@@ -2,13 +2,12 @@ use Rattle.printer.proofs.Texts.{paper-done, wire-done}
 use Rattle.lists.proofs.Parts.{same-long}
 use mathlib.Core.List.{List}
 use Rattle.printer.proofs.Texts.{Going, begun, paper-within, wire-within, paper-next, wire-next, turn, paper-counted, wire-counted, ended}
-use Rattle.printer.specs.Kept.{viewPrinter}
 use lib.Seq.{getD-take}
 use lib.ListN.{length, take, getD, length-take}
-use Prim.Native.Nat.{ℕ, _≤_, _<_, _-_, _+_}
+use Prim.Native.Nat.{ℕ, _≤_, _<_, _-_}
 use borrow.Author.Needs.{needs}
 use native.Mathlib.Omega.{arith}
-use mathlib.Core.Path.{_≡_, refl, sym, _∙_}
+use mathlib.Core.Path.{_≡_}
 use Rattle.printer.proofs.network.text_read.Statement.{statement}
 use Rattle.printer.proofs.network.text_read.Tie as tie
 use Rattle.printer.proofs.network.text_read.Reads as reads

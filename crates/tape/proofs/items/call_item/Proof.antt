@@ -1,5 +1,5 @@
 use Rattle.tape.specs.Steps.{itemOf}
-use borrow.Author.Tests.{eq-eqb, ne-eqb}
+use borrow.Author.Tests.{ne-eqb}
 use borrow.Author.Needs.{needs}
 use Rattle.tape.proofs.items.call_item.Statement.{statement}
 use Rattle.tape.proofs.items.call_item.Tie as tie

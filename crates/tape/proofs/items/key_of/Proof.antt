@@ -1,6 +1,5 @@
 use Rattle.tape.specs.Steps.{pairOf}
 use borrow.Author.Tests.{eq-eqb, ne-eqb}
-use mathlib.Core.Path.{_≡_, refl, sym, _∙_}
 use Rattle.tape.proofs.items.key_of.Statement.{statement}
 use Rattle.tape.proofs.items.key_of.Tie as tie
 use Rattle.tape.proofs.items.key_of.Reads as reads

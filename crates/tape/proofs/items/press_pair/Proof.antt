@@ -2,7 +2,7 @@ use Rattle.tape.proofs.Calling.{pair-typed}
 use Rattle.printer.proofs.Answering.{met-refused}
 use Rattle.printer.specs.Kept.{viewPrinter}
 use lib.ListN.{length}
-use mathlib.Core.Path.{_≡_, refl, sym, _∙_}
+use mathlib.Core.Path.{sym, _∙_}
 use borrow.Author.Needs.{needs}
 use Rattle.tape.proofs.items.press_pair.Statement.{statement}
 use Rattle.tape.proofs.items.press_pair.Tie as tie

@@ -1,6 +1,6 @@
 use native.Mathlib.Omega.{arith}
 use Rattle.lists.proofs.ReadOff.{read-off, within-after}
-use lib.ListN.{length, take, length-take}
+use lib.ListN.{length-take}
 use borrow.Author.Needs.{needs}
 use Rattle.tape.proofs.items.put_item.Statement.{statement}
 use Rattle.tape.proofs.items.put_item.Tie as tie

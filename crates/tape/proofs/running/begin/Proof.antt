@@ -1,4 +1,3 @@
-use mathlib.Core.Path.{refl}
 use borrow.Author.Needs.{needs}
 use Rattle.tape.proofs.running.begin.Statement.{statement}
 use Rattle.tape.proofs.running.begin.Tie as tie

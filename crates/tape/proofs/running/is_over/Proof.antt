@@ -1,4 +1,3 @@
-use mathlib.Core.Path.{_≡_, refl, sym, _∙_}
 use Rattle.tape.specs.Steps.{isOver}
 use borrow.Author.Tests.{lt-ltb, le-ltb}
 use Rattle.tape.proofs.running.is_over.Statement.{statement}

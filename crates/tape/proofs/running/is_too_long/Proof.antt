@@ -1,7 +1,6 @@
 use Rattle.tape.specs.Steps.{isTooLong}
 use borrow.Author.Tests.{eq-eqb, ne-eqb}
 use native.Mathlib.Omega.{arith}
-use mathlib.Core.Path.{refl}
 use Rattle.tape.proofs.running.is_too_long.Statement.{statement}
 use Rattle.tape.proofs.running.is_too_long.Tie as tie
 use Rattle.tape.proofs.running.is_too_long.Reads as reads

@@ -3,7 +3,7 @@ use Rattle.tape.proofs.Bounds.{bad-fits}
 use Rattle.lists.proofs.Starts.{wrote-none}
 use Prim.Native.Nat.{_+_}
 use native.Mathlib.Omega.{arith}
-use mathlib.Core.Path.{_≡_, refl, sym, _∙_}
+use mathlib.Core.Path.{refl, sym, _∙_}
 use borrow.Author.Needs.{needs}
 use Rattle.tape.proofs.running.next_field.Statement.{statement}
 use Rattle.tape.proofs.running.next_field.Tie as tie

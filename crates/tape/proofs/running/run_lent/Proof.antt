@@ -7,7 +7,7 @@ use Rattle.tape.proofs.Runs.{Runs, falls, no-steps, still-long, within,
 use Rattle.tape.proofs.ManySteps.{over-stays}
 use borrow.Author.Tests.{leb-true, not-true, not-false}
 use native.Mathlib.Omega.{arith}
-use mathlib.Core.Path.{_≡_, refl, sym, _∙_}
+use mathlib.Core.Path.{sym, _∙_}
 use borrow.Author.Needs.{needs}
 use Rattle.tape.proofs.running.run_lent.Statement.{statement}
 use Rattle.tape.proofs.running.run_lent.Tie as tie

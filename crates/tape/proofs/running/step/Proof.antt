@@ -3,9 +3,8 @@ use Rattle.tape.proofs.Steps.{stands, some-width, part-long}
 use Rattle.tape.specs.Kept.{viewMachine}
 use Rattle.tape.specs.Steps.{stepped}
 use Rattle.lists.proofs.Starts.{wrote-none}
-use lib.ListN.{length}
 use native.Mathlib.Omega.{arith}
-use mathlib.Core.Path.{_≡_, refl, sym, _∙_}
+use mathlib.Core.Path.{refl, sym, _∙_}
 use borrow.Author.Needs.{needs}
 use Rattle.tape.proofs.running.step.Statement.{statement}
 use Rattle.tape.proofs.running.step.Tie as tie
