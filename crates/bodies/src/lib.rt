@@ -23,6 +23,9 @@ const SETS_BREAKS: u8 = 8;
 
 const SETS_SENDS: u8 = 16;
 
+// All of them, with the weight 1 that every command to perform has.
+const ALL_BITS: u8 = 31;
+
 // Which keys are not printed: break characters, and text up to them.
 pub struct Action {
     pub skipbreak: bool,
@@ -149,7 +152,7 @@ pub fn rcte_body(body: &[u8]) -> RcteBody
         }
         return RcteBody::Unreadable;
     }
-    if cmd > 31 {
+    if cmd > ALL_BITS {
         return RcteBody::Unreadable;
     }
     if n != rcte_length(cmd) {
