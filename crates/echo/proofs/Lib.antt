@@ -3,3 +3,4 @@ pub mod Widths
 pub mod Gathering
 pub mod Pressing
 pub mod Releasing
+pub mod Spending

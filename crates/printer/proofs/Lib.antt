@@ -1,4 +1,3 @@
-pub mod LimitsEcho
 pub mod LimitsReader
 pub mod LimitsNetwork
 pub mod Limits

@@ -31,7 +31,7 @@ use Rattle.printer.specs.Calls.{networkCall, badKey, keyTyped, keyCall, 
 use Rattle.printer.specs.Session.{Call, network, key, ask, suggest, called, answersFrom}
 use Rattle.printer.specs.Limits.{textLimit, Sized, InBytes, Limited, Fits, NetworkFits, KeyFits, MoveFits, SuggestionFits, CallFits, FreshLimited, NetworkKeeps, KeyKeeps, MoveKeeps, OfBytes, CallKeeps, Within, SessionWithin}
 use Rattle.macros.specs.Packed.{textOf}
-use Rattle.printer.proofs.LimitsEcho.{presses}
+use Rattle.echo.proofs.Spending.{presses}
 use Rattle.keys.proofs.Packing.{paper-most, wire-most}
 use Rattle.printer.proofs.LimitsReader.{credit, no-credit, credit-within}
 use Rattle.negotiation.proofs.Replies.{reply-long}

@@ -46,7 +46,7 @@ use Rattle.printer.specs.State.{Printer, withSides, withReader, withTabl
 use Rattle.printer.specs.Network.{dataRead, rcteMoved, sideMoved, replied, sideHeard, negotiationRead, rcteRead, macroRead, valueRead, optionRead, bodyRead, itemRead, byteRead, bytesRead}
 use Rattle.printer.specs.Limits.{textLimit, InBytes, Limited}
 use Rattle.macros.specs.Packed.{textOf}
-use Rattle.printer.proofs.LimitsEcho.{Spends, releases, ends}
+use Rattle.echo.proofs.Spending.{Spends, releases, ends}
 use Rattle.printer.proofs.LimitsReader.{credit, pays, reads}
 
 -- a text that a table may hold

@@ -5,19 +5,20 @@ use mathlib.Core.List.{List, [], _∷_}
 use Prim.Native.Nat.{ℕ, _≤_}
 use native.Mathlib.Omega.{arith}
 use borrow.Author.Tests.{ltb-false, le-ltb}
-use lib.Dec.{ltb, eqb}
+use lib.Dec.{ltb}
 use Rattle.lists.proofs.Lengths.{chosen, either}
 use Rattle.codes.specs.Answers.{codeNumber, paperRoom, wireRoom, noRoom, Guard, when, guarded}
 use Rattle.codes.specs.declared.Code.{Code}
 use Rattle.codes.specs.declared.Code.the-variants.{NoRoom}
 use Rattle.keys.specs.declared.Key.{Key}
-use Rattle.keys.specs.declared.Key.the-variants.{Char, Line, Command}
 use Rattle.printer.specs.State.{Printer, Did, Answer, done, refused}
 use Rattle.negotiation.specs.Carried.{printerSide, askedSide, askedEnable, askGuards}
 use Rattle.printer.specs.Network.{networkRead}
 use Rattle.printer.specs.Calls.{networkCall, keyTyped, keyCall, askCall}
 use Rattle.tape.specs.Fields.{Item, networkByte, keyPair, askPair}
-use Rattle.tape.specs.Running.{lentFor, pairCall, itemCall, itemAnswer}
+use Rattle.tape.specs.declared.Pair.{Pair}
+use Rattle.tape.specs.declared.Pair.the-variants.{Typed, Other}
+use Rattle.tape.specs.Running.{lentFor, pairOf, typedCall, itemCall, itemAnswer}
 use Rattle.tape.specs.Whole.{LentIsEnough, NeverNoRoom}
 
 pub lent-is-enough : LentIsEnough
@@ -28,17 +29,17 @@ lent-is-enough r = record {
 }
 
 -- a code other than 1, and guards with no other codes
-abbrev Other : Code → Type 0
-Other c = codeNumber c ≡ 1 → ⊥
+abbrev NotOne : Code → Type 0
+NotOne c = codeNumber c ≡ 1 → ⊥
 
-abbrev Others : List Guard → Type 0
-Others [] = Unit {0}
-Others (g ∷ gs) = Other (g .code) × Others gs
+abbrev NoneIsOne : List Guard → Type 0
+NoneIsOne [] = Unit {0}
+NoneIsOne (g ∷ gs) = NotOne (g .code) × NoneIsOne gs
 
 abbrev Answered : Answer → Type 0
-Answered a = Other (a .code)
+Answered a = NotOne (a .code)
 
-guarded-other : (gs : List Guard) (s : Printer) (d : Did) → Others gs → Answered (guarded gs (refused s) (done d))
+guarded-other : (gs : List Guard) (s : Printer) (d : Did) → NoneIsOne gs → Answered (guarded gs (refused s) (done d))
 unfolding guarded
 guarded-other [] s d o = omega arith
 guarded-other (g ∷ gs) s d o = either Answered (g .holds) (o .0) (guarded-other gs s d (o .1))
@@ -48,7 +49,7 @@ module _ (s : Printer) (paper wire : ℕ) (p : paperRoom ≤ paper) (w : wireRoo
   room = rw (le-ltb paper paperRoom p, le-ltb wire wireRoom w)
 
   -- with room, the guards behind the first decide
-  with-room : (gs : List Guard) (d : Did) → Others gs → Answered (guarded (when (noRoom paper wire) NoRoom ∷ gs) (refused s) (done d))
+  with-room : (gs : List Guard) (d : Did) → NoneIsOne gs → Answered (guarded (when (noRoom paper wire) NoRoom ∷ gs) (refused s) (done d))
   unfolding guarded
   with-room gs d o = rw room (guarded-other gs s d o)
 
@@ -64,16 +65,13 @@ module _ (s : Printer) (paper wire : ℕ) (p : paperRoom ≤ paper) (w : wireRoo
   unfolding askCall
   of-ask option way = with-room (askGuards (s .sides) (askedSide printerSide option way) (askedEnable way)) _ (omega arith)
 
-  of-pair : (kind v : ℕ) → Answered (pairCall s kind v paper wire)
-  unfolding pairCall
-  of-pair kind v =
-      either Answered (eqb kind 0) (of-key (Char v))
-      (either Answered (eqb kind 2) (of-key (Command v))
-      (either Answered (eqb kind 1) (either Answered (eqb v 0) (of-key Line) (omega arith)) (omega arith)))
+  of-typed : (p : Pair) → Answered (typedCall s p paper wire)
+  of-typed (Typed k) = of-key k
+  of-typed Other = omega arith
 
   of-item : (i : Item) → Answered (itemCall s i paper wire)
   of-item (networkByte b) = of-network b
-  of-item (keyPair kind v) = of-pair kind v
+  of-item (keyPair kind v) = of-typed (pairOf kind v)
   of-item (askPair option way) = of-ask option way
 
 pub never-no-room : NeverNoRoom

@@ -10,6 +10,8 @@ use Rattle.keys.specs.declared.Key.the-variants.{Char, Line, Command}
 use Rattle.printer.specs.State.{Printer, fresh, Answer, refused}
 use Rattle.printer.specs.Calls.{networkCall, keyCall, askCall}
 use Rattle.tape.specs.declared.Found.{Found}
+use Rattle.tape.specs.declared.Pair.{Pair}
+use Rattle.tape.specs.declared.Pair.the-variants.{Typed, Other}
 use Rattle.tape.specs.declared.Found.the-variants.{Field, End, Bad}
 use Rattle.tape.specs.Fields.{Item, networkByte, keyPair, askPair, foundAt, partOf, itemsOf}
 use Rattle.tape.specs.Lines.{answerLine, badTape}
@@ -38,16 +40,20 @@ lentFor r = record {
   wire = pick (ltb (r .wire) wireRoom) lentWire (r .wire);
 }
 
--- a pair (0, b) is Char(b), (1, 0) is Line, (2, c) is Command(c); a pair of no such form is code 3
-unfoldable pub pairCall : Printer → ℕ → ℕ → ℕ → ℕ → Answer
-pairCall s kind v paper wire =
-    pick (eqb kind 0) (keyCall s (Char v) paper wire)
-    (pick (eqb kind 2) (keyCall s (Command v) paper wire)
-    (pick (eqb kind 1) (pick (eqb v 0) (keyCall s Line paper wire) (refused s BadCommand)) (refused s BadCommand)))
+-- a pair (0, b) is Char(b), (1, 0) is Line, (2, c) is Command(c); a pair of no such form stands for no key
+unfoldable pub pairOf : ℕ → ℕ → Pair
+pairOf kind v =
+    pick (eqb kind 0) (Typed (Char v))
+    (pick (eqb kind 2) (Typed (Command v)) (pick (eqb kind 1) (pick (eqb v 0) (Typed Line) Other) Other))
+
+-- .. and is code 3
+abbrev pub typedCall : Printer → Pair → ℕ → ℕ → Answer
+typedCall s (Typed k) paper wire = keyCall s k paper wire
+typedCall s Other paper wire = refused s BadCommand
 
 abbrev pub itemCall : Printer → Item → ℕ → ℕ → Answer
 itemCall s (networkByte b) paper wire = networkCall s b paper wire
-itemCall s (keyPair kind v) paper wire = pairCall s kind v paper wire
+itemCall s (keyPair kind v) paper wire = typedCall s (pairOf kind v) paper wire
 itemCall s (askPair option way) paper wire = askCall s option way paper wire
 
 -- an item's answer, in the unused tails

@@ -6,28 +6,12 @@ use Prim.Native.Nat.{ℕ, _+_, _-_, _<_}
 use lib.ListN.{length, getD}
 use lib.Dec.{ltb, eqb}
 use Rattle.lists.specs.Choice.{pick}
-use Rattle.codes.specs.declared.Code.the-variants.{BadCommand}
-use Rattle.keys.specs.declared.Key.the-variants.{Char, Line, Command}
-use Rattle.printer.specs.State.{Printer, Answer, refused}
-use Rattle.printer.specs.Calls.{keyCall}
 use Rattle.tape.specs.declared.Found.{Found}
 use Rattle.tape.specs.declared.Found.the-variants.{Field, End, Bad}
-use Rattle.tape.specs.declared.Pair.{Pair}
-use Rattle.tape.specs.declared.Pair.the-variants.{Typed, Other}
 use Rattle.tape.specs.declared.Place.{Place}
 use Rattle.tape.specs.Fields.{Item, networkByte, keyPair, askPair, foundAt, partOf, itemsOf}
 use Rattle.tape.specs.Lines.{answerLine, badTape}
 use Rattle.tape.specs.Running.{Run, begun, lentFor, itemAnswer, afterItem, itemsRun, fieldsRun, tapeRoom, printed}
-
--- the key that a pair stands for
-unfoldable pub pairOf : ℕ → ℕ → Pair
-pairOf kind v =
-    pick (eqb kind 0) (Typed (Char v))
-    (pick (eqb kind 2) (Typed (Command v)) (pick (eqb kind 1) (pick (eqb v 0) (Typed Line) Other) Other))
-
-abbrev pub typedCall : Printer → Pair → ℕ → ℕ → Answer
-typedCall s (Typed k) paper wire = keyCall s k paper wire
-typedCall s Other paper wire = refused s BadCommand
 
 -- how many bytes an item takes up, and the item that two bytes give; a network byte is the first
 abbrev pub width : ℕ → ℕ

@@ -4,8 +4,8 @@ ghost use lib.ListN.{length};
 ghost use Rattle.lists.specs.Buffers.{RoomFor};
 ghost use Rattle.printer.specs.Kept.{viewPrinter, MetAnswer};
 ghost use Rattle.tape.specs.Lines.{answerLine};
-ghost use Rattle.tape.specs.Running.{pairCall, itemCall};
-ghost use Rattle.tape.specs.Steps.{pairOf, itemOf};
+ghost use Rattle.tape.specs.Running.{pairOf, typedCall, itemCall};
+ghost use Rattle.tape.specs.Steps.{itemOf};
 ghost use Rattle.tape.specs.Kept.{MetItem};
 use super::KEYS;
 use super::NETWORK;
@@ -46,7 +46,7 @@ fn key_of(kind: u8, v: u8) -> Pair
 
 // A key pair. One that stands for no key is code 3 and never comes to the printer end.
 fn press_pair(s: Printer, kind: u8, v: u8, paper: &mut [u8], wire: &mut [u8]) -> Answer
-    ensures { λ r. ⌜ MetAnswer (pairCall (viewPrinter s) kind v (length (now (paper .entry))) (length (now (wire .entry)))) s (now (paper .entry)) (now (paper .exit)) (now (wire .entry)) (now (wire .exit)) r ⌝ }
+    ensures { λ r. ⌜ MetAnswer (typedCall (viewPrinter s) (pairOf kind v) (length (now (paper .entry))) (length (now (wire .entry)))) s (now (paper .entry)) (now (paper .exit)) (now (wire .entry)) (now (wire .exit)) r ⌝ }
 {
     let pair = key_of(kind, v);
     let Pair::Typed(key) = pair else {

@@ -7,12 +7,12 @@ use Rattle.printer.specs.Session.{Call, called, answersFrom}
 use Rattle.secrecy.specs.Lent as L
 use Rattle.tape.specs.Fields.{Item}
 use Rattle.tape.specs.Lines.{answerLine}
-use Rattle.tape.specs.Running.{Run, lentFor, pairCall, itemAnswer, afterItem, itemsRun}
+use Rattle.tape.specs.Running.{Run, lentFor, pairOf, itemAnswer, afterItem, itemsRun}
 use Rattle.worked.specs.Lends.{Stands, AllStand, linesOf, programs, unused, RunIsLent}
 
 same-answer : (r : Run) {i : Item} {c : Call} → Stands i c
     → itemAnswer (lentFor r) i ≡ called (r .printer) (L.inTails (L.lentFor programs (unused r)) c)
-unfolding lentFor itemAnswer pairCall called
+unfolding lentFor itemAnswer pairOf called
 same-answer r Stands.byte = refl
 same-answer r Stands.char = refl
 same-answer r Stands.line = refl

@@ -19,7 +19,7 @@ use Rattle.printer.specs.Network.{dataRead, sideMoved, sideHeard, negotiationRe
 use Rattle.printer.specs.Session.{called, answersFrom}
 use Rattle.tape.specs.Fields.{foundAt, partOf, pairs, itemsOf}
 use Rattle.tape.specs.Lines.{digits, hexByte, lineOf, shown, badTape}
-use Rattle.tape.specs.Running.{lentFor, pairCall, itemAnswer, itemsRun, fieldsRun, printed}
+use Rattle.tape.specs.Running.{lentFor, pairOf, itemAnswer, itemsRun, fieldsRun, printed}
 
 unfoldable pub layerRules : Unit {0}
 unfolding oneOf sum joined guarded classOf inClasses prints keyPaper keyWire coded frame printerSide clashes askedSide heardBy askedBy heard asked keeping commandRead bodyCommandRead read byOption macroBody rcteBody valueBody total defined judged isFull pressed released commanded ended isBreak isSend takenUp handling
@@ -30,5 +30,5 @@ unfolding layerRules networkCall keyTyped keyCall askCall suggestCall returnsRep
 printerRules = tt
 
 unfoldable pub tapeRules : Unit {0}
-unfolding printerRules foundAt partOf pairs itemsOf digits hexByte lineOf shown badTape lentFor pairCall itemAnswer itemsRun fieldsRun printed
+unfolding printerRules foundAt partOf pairs itemsOf digits hexByte lineOf shown badTape lentFor pairOf itemAnswer itemsRun fieldsRun printed
 tapeRules = tt

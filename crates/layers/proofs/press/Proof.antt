@@ -3,7 +3,7 @@ use Prim.Native.Nat.{_≤_}
 use native.Mathlib.Omega.{arith}
 use lib.ListN.{length, length-take}
 use Rattle.echo.specs.View.{viewEcho, gatheredIn}
-use Rattle.printer.proofs.LimitsEcho.{presses}
+use Rattle.echo.proofs.Spending.{presses}
 use borrow.Author.Needs.{needs}
 use Rattle.layers.proofs.press.Statement.{statement}
 use Rattle.layers.proofs.press.Tie as tie

@@ -1,4 +1,4 @@
-use Rattle.tape.specs.Steps.{pairOf}
+use Rattle.tape.specs.Running.{pairOf}
 use borrow.Author.Tests.{eq-eqb, ne-eqb}
 use Rattle.tape.proofs.items.key_of.Statement.{statement}
 use Rattle.tape.proofs.items.key_of.Tie as tie

@@ -1,7 +1,4 @@
-use Rattle.tape.proofs.Calling.{pair-typed}
 use Rattle.printer.proofs.Answering.{met-refused}
-use Rattle.printer.specs.Kept.{viewPrinter}
-use lib.ListN.{length}
 use mathlib.Core.Path.{sym, _∙_}
 use borrow.Author.Needs.{needs}
 use Rattle.tape.proofs.items.press_pair.Statement.{statement}
@@ -26,9 +23,7 @@ enum-told c = search needs
 -- src/items.rt:44:9
 returns : tie.Need-returns
 returns c =
-    let start = c .before .before .before .before .before in
-    let a = start .args in
-    rw (pair-typed (viewPrinter (a .s)) (length (a .paper .now)) (length (a .wire .now)) (a .kind) (a .v), sym (c .before .before .key-of .ensures) ∙ c .enum-told .given .1) met-refused
+    rw (sym (c .before .before .key-of .ensures) ∙ c .enum-told .given .1) met-refused
 
 -- src/items.rt:52:5
 press-requires : tie.Need-press-requires
@@ -45,11 +40,9 @@ same-length-2 c = search needs
 -- src/items.rt:39:1
 returns-2 : tie.Need-returns-2
 returns-2 c =
-    let start = c .before .before .before .before .before .before .before .before .before .before .before .before .before in
-    let a = start .args in
     let key-of = c .before .before .before .before .before .before .before .before .before .before .key-of in
     let pair = c .before .before .before .before .before .before .before .before .pair in
-    rw (pair-typed (viewPrinter (a .s)) (length (a .paper .now)) (length (a .wire .now)) (a .kind) (a .v), sym (key-of .ensures) ∙ pair .given .1) (c .before .before .before .before .press .ensures)
+    rw (sym (key-of .ensures) ∙ pair .given .1) (c .before .before .before .before .press .ensures)
 
 pub press-pair-spec : {M : Type 1} → statement M
 press-pair-spec =
