@@ -37,6 +37,6 @@ pub record Waiting (s : Printer) : Type 0 where
 abbrev pub WaitingHeld : Type 0
 WaitingHeld = (cs : List Call) → Waiting (stateAfter fresh cs)
 
--- ECHO and RCTE are never both away from NO; as every first part of a list is a list, they are not at any call
+-- one of ECHO and RCTE is at NO behind every session, and so at every call: each first part of a list is a list
 abbrev pub StayApart : Type 0
 StayApart = (cs : List Call) → Apart (stateAfter fresh cs .sides)

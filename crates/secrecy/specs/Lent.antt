@@ -53,8 +53,8 @@ pub record LentAlike (ms : List Bool) (cs ds : List Call) : Type 0 where
   pub sizes : EvenIn ms cs ds → Agree ms cs ds
   pub sent : EvenIn ms cs ds → Each SameSent (session cs) (session ds)
 
--- Two lists agree except for typed characters, each of them never taken up or taken up unprinted. As they are made, each call
--- gives the same paper, code and note in both and leaves equally many keys waiting. If the taken-up pairs are even, the tails
+-- Two lists agree except for typed characters, each of them never taken up or taken up unprinted. As they are made, code, note,
+-- paper and the number of waiting keys are the same call by call. If the taken-up pairs are even, the tails
 -- are equal at every call, so that the lists agree in buffer sizes too, and each call sends equally many bytes. Fresh buffers
 -- have the sizes that code 1 asks for, or more.
 abbrev pub TwoLent : Type 0

@@ -20,7 +20,7 @@ use printer::Answer;
 use printer::Printer;
 use printer::calls;
 
-// The kinds of key pairs: (0, byte), (1, 0), (2, code).
+// The first byte of a pair: which kind of key it is.
 const CHAR: u8 = 0;
 
 const LINE: u8 = 1;
