@@ -3,8 +3,8 @@ use keys::Key;
 use printer::Printer;
 
 pub mod fields;
-pub mod items;
-pub mod lines;
+mod items;
+mod lines;
 pub mod running;
 
 // The tags of fields: network bytes, key pairs, ask pairs.

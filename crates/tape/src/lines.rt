@@ -28,7 +28,7 @@ fn put_digits(most: usize, m: usize, out: &mut [u8]) -> usize
     n + 1
 }
 
-pub fn put_decimal(n: usize, out: &mut [u8]) -> usize
+fn put_decimal(n: usize, out: &mut [u8]) -> usize
     requires { ⌜ RoomFor (decimal n) (now out) ⌝ }
     ensures { λ r. ⌜ Wrote (decimal n) (now (out .entry)) (now (out .exit)) r ⌝ }
 {
@@ -70,7 +70,7 @@ fn put_hex_bytes(bytes: &[u8], out: &mut [u8]) -> usize
 }
 
 // Bytes in hex, `-` for none.
-pub fn put_hex(bytes: &[u8], out: &mut [u8]) -> usize
+fn put_hex(bytes: &[u8], out: &mut [u8]) -> usize
     requires { ⌜ RoomFor (hexOf (now bytes)) (now out) ⌝ }
     ensures { λ r. ⌜ Wrote (hexOf (now (bytes .entry))) (now (out .entry)) (now (out .exit)) r ⌝ }
 {
@@ -121,14 +121,7 @@ fn put_both(paper: &[u8], wire: &[u8], out: &mut [u8]) -> usize
 }
 
 // `field.item code paper wire`
-pub fn put_line(
-    field: usize,
-    item: usize,
-    code: u8,
-    paper: &[u8],
-    wire: &[u8],
-    out: &mut [u8],
-) -> usize
+fn put_line(field: usize, item: usize, code: u8, paper: &[u8], wire: &[u8], out: &mut [u8]) -> usize
     requires { ⌜ RoomFor (lineOf field item code (now paper) (now wire)) (now out) ⌝ }
     ensures { λ r. ⌜ Wrote (lineOf field item code (now (paper .entry)) (now (wire .entry))) (now (out .entry)) (now (out .exit)) r ⌝ }
 {
