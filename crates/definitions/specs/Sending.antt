@@ -9,6 +9,8 @@ use Rattle.lists.specs.Lists.{sum, joined}
 use Rattle.codes.specs.Telnet.{IAC, BM, DEFINE}
 use Rattle.wire.specs.Frames.{doubled, coded, frame, literal}
 use Rattle.macros.specs.Texts.{isItself, textRoom}
+use Rattle.definitions.specs.declared.Status.{Status}
+use Rattle.definitions.specs.declared.Status.the-variants.{Free, Pending, PendingFree, Accepted, Refused}
 
 -- a text is the data that was given to DEFINE; pendingFree is a byte whose pending definition is itself
 pub data Sent : Type 0 where
@@ -17,6 +19,20 @@ pub data Sent : Type 0 where
   pendingFree : Sent
   accepted : List ℕ → Sent
   refused : Sent
+
+abbrev pub statusOf : Sent → Status
+statusOf free = Free
+statusOf (pending s) = Pending
+statusOf pendingFree = PendingFree
+statusOf (accepted s) = Accepted
+statusOf refused = Refused
+
+abbrev pub statusNumber : Status → ℕ
+statusNumber Free = 0
+statusNumber Pending = 1
+statusNumber PendingFree = 2
+statusNumber Accepted = 3
+statusNumber Refused = 4
 
 abbrev pub Definitions : Type 0
 Definitions = List Sent

@@ -12,3 +12,4 @@ pub mod Grown
 pub mod Copying
 pub mod Behind
 pub mod ReadOff
+pub mod Paired

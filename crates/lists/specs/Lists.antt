@@ -10,3 +10,9 @@ sum (n ∷ ns) = n + sum ns
 unfoldable pub joined : {X Y : Type 0} → (X → List Y) → List X → List Y
 joined f [] = []
 joined f (x ∷ xs) = f x ++ joined f xs
+
+-- f of each element and of the one at its place in the second list; d where that list has ended
+unfoldable pub paired : {X Y Z : Type 0} → (X → Y → Z) → Y → List X → List Y → List Z
+paired f d [] ys = []
+paired f d (x ∷ xs) [] = f x d ∷ paired f d xs []
+paired f d (x ∷ xs) (y ∷ ys) = f x y ∷ paired f d xs ys

@@ -1,10 +1,10 @@
 -- The table that a struct stands for.
-use mathlib.Core.Path.{_≡_, refl, sym, _∙_}
-use mathlib.Core.Bool.{Bool, true, false, false≢true}
+use mathlib.Core.Path.{_≡_, refl, sym, ap, _∙_}
+use mathlib.Core.Bool.{Bool, true, false, not, false≢true}
 use mathlib.Core.List.{List, [], _++_}
 use Prim.Native.Nat.{ℕ, _+_, _-_, _≤_, _<_}
 use native.Mathlib.Omega.{arith}
-use borrow.Author.Tests.{lt-ltb, le-ltb, le-leb, lt-leb, ltb-true, ltb-false, ne-eqb}
+use borrow.Author.Tests.{lt-ltb, le-ltb, le-leb, lt-leb, ltb-true, ltb-false, ne-eqb, eqb-false}
 use lib.Dec.{ltb, leb, eqb}
 use lib.ListN.{length, getD, take, drop, replicate, length-take, length-drop}
 use lib.Seq.{take-all, take-at}
@@ -14,7 +14,7 @@ use Rattle.lists.proofs.Lengths.{every-replicate}
 use Rattle.lists.proofs.Uniform.{getD-uniform}
 use Rattle.macros.specs.declared.Texts.{Texts}
 use Rattle.macros.specs.Texts.{Entry, plain, text, noMacros, entryOf, textRoom}
-use Rattle.macros.specs.Packed.{lengthOf, lengths, entryAt, entries, viewTexts, CleanTexts, Settled, UnmarkedPlain, isText, textOf, CopyOf}
+use Rattle.macros.specs.Packed.{lengthOf, lengths, entryAt, entries, viewTexts, CleanTexts, Settled, UnmarkedPlain, isUnmarked, isText, textOf, CopyOf}
 use Rattle.macros.proofs.Laws.{entries-none, entry-at}
 use Rattle.macros.proofs.Marks.{text-at}
 
@@ -71,6 +71,14 @@ module _ (t : Texts) (x : ℕ) where
       go : (b : Bool) → ltb textRoom (lengths (t .marks)) ≡ b → leb (lengths (t .marks)) textRoom ≡ isText (entryOf (viewTexts t) x)
       go true over = rw (no-entry (ltb-true textRoom (lengths (t .marks)) over)) (lt-leb (lengths (t .marks)) textRoom (ltb-true textRoom (lengths (t .marks)) over))
       go false over = rw (the-entry (ltb-false textRoom (lengths (t .marks)) over), ne-eqb (getD (t .marks) x 0) 0 e) (le-leb (lengths (t .marks)) textRoom (ltb-false textRoom (lengths (t .marks)) over))
+
+  -- where the texts are within the room, just the bytes that are not defined have no mark
+  pub unmarked-exactly : lengths (t .marks) ≤ textRoom → isUnmarked (t .marks) x ≡ not (isText (entryOf (viewTexts t) x))
+  unmarked-exactly room = go (eqb (getD (t .marks) x 0) 0) refl
+    where
+      go : (b : Bool) → eqb (getD (t .marks) x 0) 0 ≡ b → b ≡ not (isText (entryOf (viewTexts t) x))
+      go true e = rw (unmarked e)
+      go false e = ap not (sym (le-leb (lengths (t .marks)) textRoom room) ∙ marked-within (eqb-false (getD (t .marks) x 0) 0 e))
 
 pub unmarked-plain : UnmarkedPlain
 unmarked-plain t x e = unmarked t x e
