@@ -4,7 +4,7 @@ ghost use mathlib.Core.Bool.{true};
 ghost use Prim.Native.Nat.{_+_, _<_};
 ghost use lib.ListN.{length};
 ghost use Rattle.lists.specs.Choice.{pick};
-ghost use Rattle.bodies.specs.RcteBodies.{bit, actionOf, pairAt, classesAt, rcteLength, performed, rcteBody};
+ghost use Rattle.bodies.specs.RcteBodies.{bit, setsBreaks, setsSends, actionOf, pairAt, classesAt, rcteLength, performed, rcteBody};
 ghost use Rattle.bodies.specs.MacroBodies.{macroBody, replyBody};
 ghost use Rattle.bodies.specs.ValueBodies.{isBadValue, valueBody};
 use codes::ACCEPT;
@@ -93,6 +93,19 @@ fn action_of(cmd: u8) -> Action
     }
 }
 
+// Whether a command has a class pair for break characters, and one for transmission characters.
+pub fn sets_breaks(cmd: u8) -> bool
+    ensures { λ r. ⌜ r ≡ setsBreaks cmd ⌝ }
+{
+    has_bit(cmd, SETS_BREAKS)
+}
+
+pub fn sets_sends(cmd: u8) -> bool
+    ensures { λ r. ⌜ r ≡ setsSends cmd ⌝ }
+{
+    has_bit(cmd, SETS_SENDS)
+}
+
 // A class pair takes two bytes where its bit is on.
 fn pair_length(set: bool) -> usize
     ensures { λ r. ⌜ r ≡ pick set 2 0 ⌝ }
@@ -103,8 +116,8 @@ fn pair_length(set: bool) -> usize
 fn rcte_length(cmd: u8) -> usize
     ensures { λ r. ⌜ r ≡ rcteLength cmd ⌝ }
 {
-    let breaks = pair_length(has_bit(cmd, SETS_BREAKS));
-    let sends = pair_length(has_bit(cmd, SETS_SENDS));
+    let breaks = pair_length(sets_breaks(cmd));
+    let sends = pair_length(sets_sends(cmd));
     2 + breaks + sends
 }
 
@@ -131,9 +144,9 @@ fn perform(cmd: u8, body: &[u8]) -> RcteCommand
     ensures { λ r. ⌜ r ≡ performed cmd (now (body .entry)) ⌝ }
 {
     let action = action_of(cmd);
-    let set_breaks = has_bit(cmd, SETS_BREAKS);
+    let set_breaks = sets_breaks(cmd);
     let breaks = classes_at(set_breaks, body, 2);
-    let set_sends = has_bit(cmd, SETS_SENDS);
+    let set_sends = sets_sends(cmd);
     let sends = classes_at(set_sends, body, 2 + pair_length(set_breaks));
     RcteCommand::Perform(action, breaks, sends)
 }

@@ -1,9 +1,7 @@
 -- No call of the bulletin end leaves ECHO and RCTE both away from NO: its sides change by the table's steps alone.
 use mathlib.Core.Path.{_≡_, refl, subst}
-use mathlib.Core.Logic.{⊎-elim}
-use mathlib.Core.List.{List, [], _∷_, List·Memᴰ, List·Memᴰ·not-nil, List·Memᴰ·cases-cons}
+use mathlib.Core.List.{List}
 use Prim.Native.Nat.{ℕ}
-use Rattle.lists.proofs.Lengths.{either}
 use Rattle.negotiation.specs.declared.Standing.{Standing}
 use Rattle.negotiation.specs.declared.Side.{Side}
 use Rattle.negotiation.specs.declared.Side.the-variants.{Echo, BulletinSga, Rcte, Macro, PrinterSga, Returns, Uncarried}
@@ -12,13 +10,11 @@ use Rattle.negotiation.specs.Carried.{standing, moved, free}
 use Rattle.negotiation.specs.Apart.{Apart}
 use Rattle.bodies.specs.declared.MacroReply.{MacroReply}
 use Rattle.bodies.specs.declared.MacroReply.the-variants.{Accept, Refuse, PleaseCancel}
-use Rattle.definitions.specs.Sending.{sentOf, isAccepted}
-use Rattle.bulletin.specs.State.{Bulletin, fresh, Did, Answer}
+use Rattle.bulletin.specs.State.{Bulletin, fresh}
 use Rattle.bulletin.specs.Network.{sideMoved, replied}
-use Rattle.bulletin.specs.Session.{Call, called, answersFrom}
 use Rattle.bulletin.specs.Apart.{StayApart}
 use Rattle.negotiation.proofs.Apart.{apart-at-first, heard-keeps-apart, asked-keeps-apart}
-use Rattle.bulletin.proofs.Invariant.{Steps, call-kept}
+use Rattle.bulletin.proofs.Invariant.{Steps, answers-kept}
 
 abbrev ApartIn : Bulletin → Type 0
 ApartIn s = Apart (s .sides)
@@ -36,7 +32,7 @@ moved-as s Uncarried q reply = refl
 replies-apart : (s : Bulletin) (r : MacroReply) → ApartIn s → ApartIn (replied s r .state)
 replies-apart s (Accept x) a = a
 replies-apart s (Refuse x) a = a
-replies-apart s (PleaseCancel x) a = either (λ (d : Did). ApartIn (d .state)) (isAccepted (sentOf (s .table) x)) a a
+replies-apart s (PleaseCancel x) a = a
 
 apart-steps : Steps ApartIn
 apart-steps = record {
@@ -49,15 +45,5 @@ apart-steps = record {
   defines = λ s x t w n a. a;
 }
 
-apart-from : (s : Bulletin) (cs : List Call) → ApartIn s → (x : Answer) → List·Memᴰ x (answersFrom s cs) → ApartIn (x .did .state)
-unfolding answersFrom
-apart-from s [] a x m = absurd (List·Memᴰ·not-nil m)
-apart-from s (c ∷ cs) a x m =
-    let b = call-kept ApartIn apart-steps s c a in
-    ⊎-elim
-    (λ (e : x ≡ called s c). rw e b)
-    (λ (n : List·Memᴰ x (answersFrom (called s c .did .state) cs)). apart-from (called s c .did .state) cs b x n)
-    (List·Memᴰ·cases-cons m)
-
 pub stay-apart : StayApart
-stay-apart cs x m = apart-from fresh cs apart-at-first x m
+stay-apart cs a m = answers-kept ApartIn apart-steps fresh cs apart-at-first a m

@@ -1,36 +1,41 @@
 -- What every call of the bulletin end keeps. A property of its state that turns on the sides and the table alone is kept, if the
 -- steps that change these keep it.
 use mathlib.Core.Path.{_≡_, refl}
-use mathlib.Core.Bool.{Bool, true, false}
-use mathlib.Core.List.{List, [], _∷_}
+use mathlib.Core.Bool.{Bool, false}
+use mathlib.Core.Logic.{⊎-elim}
+use mathlib.Core.List.{List, [], _∷_, List·Memᴰ, List·Memᴰ·not-nil, List·Memᴰ·cases-cons}
 use Prim.Native.Nat.{ℕ}
-use lib.Dec.{eqb}
-use Rattle.lists.proofs.Lengths.{chosen, either}
+use Rattle.lists.proofs.Lengths.{chosen}
 use Rattle.codes.specs.Answers.{Guard, guarded}
-use Rattle.codes.specs.Telnet.{NAOCRD, BM, DR, whoseOf, enables}
+use Rattle.codes.specs.Telnet.{DR, enables}
 use Rattle.codes.specs.declared.Verb.{Verb}
 use Rattle.codes.specs.declared.Whose.{Whose}
+use Rattle.negotiation.specs.declared.End.{End}
 use Rattle.negotiation.specs.declared.Standing.{Standing}
 use Rattle.negotiation.specs.declared.Reply.{Reply}
-use Rattle.negotiation.specs.declared.Asked.{Asked}
-use Rattle.negotiation.specs.declared.Asked.the-variants.{Already, Moves}
+use Rattle.negotiation.specs.declared.Asked.the-variants.{Moves}
 use Rattle.negotiation.specs.declared.Side.{Side}
+use Rattle.negotiation.specs.declared.Turn.{Turn}
 use Rattle.negotiation.specs.Table.{heard, asked}
-use Rattle.negotiation.specs.Carried.{bulletinSide, standing, free, isCarried, clashes, heardBy, askedTo, askedBy, askedSide, askedWhose, askedEnable}
+use Rattle.negotiation.specs.Carried.{standing, free, clashes, replyBytes, askedSide, askedWhose, askedEnable}
 use Rattle.reader.specs.declared.Item.{Item}
 use Rattle.reader.specs.declared.Item.the-variants.{Nothing, Data, Negotiated, BodyEnd, StrayCommand}
-use Rattle.reader.specs.Reading.{idle, read, byOption}
+use Rattle.reader.specs.Reading.{idle, read}
 use Rattle.bodies.specs.declared.MacroReply.{MacroReply}
 use Rattle.bodies.specs.declared.ReplyBody.{ReplyBody}
 use Rattle.bodies.specs.declared.ValueBody.{ValueBody}
 use Rattle.bodies.specs.MacroBodies.{replyBody}
 use Rattle.bodies.specs.ValueBodies.{valueBody}
 use Rattle.definitions.specs.Sending.{defining}
-use Rattle.bulletin.specs.State.{Bulletin, withReader, withTable, macrosOn, returnsOn, Did, nothing, Answer, done, refused}
-use Rattle.bulletin.specs.Network.{dataRead, sideMoved, sideHeard, negotiationRead, replied, replyRead, valueRead, optionRead, bodyRead, itemRead, networkRead}
-use Rattle.bulletin.specs.Calls.{networkCall, askCall, suggestCall, orderCall, defineGuards, defineCall, useCall, itemSent, textCall}
-use Rattle.bulletin.specs.Session.{Call, network, ask, suggest, order, define, useMacro, text, called}
+use Rattle.bulletin.specs.State.{Bulletin, withReader, withTable, Did, Answer, refused}
+use Rattle.bulletin.specs.Network.{dataRead, sideMoved, negotiationRead, replied, replyRead, valueRead, bodyHandled, bodyRead, itemRead, networkRead}
+use Rattle.bulletin.specs.Calls.{networkCall, askOf, askCall, suggestCall, orderCall, defineGuards, defineCall, useCall, itemSent, textCall}
+use Rattle.bulletin.specs.Session.{Call, network, ask, suggest, order, define, useMacro, text, called, answersFrom}
 use Rattle.codes.proofs.Guards.{NoneHolds}
+use Rattle.negotiation.proofs.Outcomes.{heard-cases, asked-cases}
+use Rattle.subnegotiation.specs.declared.Checked.{Checked}
+use Rattle.subnegotiation.specs.declared.Checked.the-variants.{Noted}
+use Rattle.subnegotiation.specs.Checks.{checked}
 
 -- the steps that change sides or table: what is heard and asked of a side, an answer about a macro, a DEFINE
 pub record Steps (P : Bulletin → Type 0) : Type 0 where
@@ -48,10 +53,10 @@ module _ (P : Bulletin → Type 0) (k : Steps P) where
 
   module _ (s : Bulletin) (h : P s) where
     heard-kept : (v : Verb) (option : ℕ) → Leaves (negotiationRead s v option)
-    unfolding negotiationRead sideHeard heardBy
+    unfolding negotiationRead sideMoved
     heard-kept v option =
-        let side = bulletinSide (whoseOf v) option in
-        either Leaves (isCarried side) (k .hears s side (enables v) _ h) h
+        heard-cases (λ (t : Turn). Leaves (sideMoved s (t .side) (t .next) (replyBytes (t .whose) (t .reply) option))) End.Bulletin (s .sides) v option
+        (λ side. k .hears s side (enables v) [] h) h
 
     reply-kept : (r : ReplyBody) → Leaves (replyRead s r)
     reply-kept ReplyBody.Unreadable = h
@@ -61,34 +66,26 @@ module _ (P : Bulletin → Type 0) (k : Steps P) where
     value-kept ValueBody.Unreadable = h
     value-kept (ValueBody.Readable v) = k .others refl refl h
 
-    option-kept : (option : ℕ) (body : List ℕ) → Leaves (optionRead s option body)
-    unfolding optionRead
-    option-kept option body =
-        either Leaves (eqb option NAOCRD) (either Leaves (returnsOn s) (value-kept (valueBody DR body)) h)
-        (either Leaves (eqb option BM) (either Leaves (macrosOn s) (reply-kept (replyBody body)) h) h)
+    handled-kept : (body : List ℕ) (c : Checked) → Leaves (bodyHandled s body c)
+    handled-kept body (Noted n) = h
+    handled-kept body Checked.Rcte = h
+    handled-kept body Checked.Returns = value-kept (valueBody DR body)
+    handled-kept body Checked.Macro = reply-kept (replyBody body)
 
     body-kept : (marred : Bool) (body : List ℕ) → Leaves (bodyRead s marred body)
-    unfolding bodyRead byOption
-    body-kept true body = h
-    body-kept false [] = h
-    body-kept false (option ∷ rest) = option-kept option (option ∷ rest)
+    unfolding bodyRead
+    body-kept marred body = handled-kept body (checked End.Bulletin (s .sides) marred body)
 
-    asked-kept : (whose : Whose) (option : ℕ) (side : Side) (enable : Bool) → clashes (s .sides) side enable ≡ false
-        → Leaves (askedBy (s .sides) whose option side enable (λ q reply. sideMoved s side q reply) (nothing s))
-    unfolding askedBy
-    asked-kept whose option side enable c = go (asked enable (standing (s .sides) side)) refl
-      where
-        go : (a : Asked) → asked enable (standing (s .sides) side) ≡ a
-            → Leaves (askedTo (s .sides) whose option side enable (λ q reply. sideMoved s side q reply) (nothing s) a)
-        go Already e = h
-        go (Moves q r) e = k .asks s side enable q r _ c e h
+    asked-kept : (whose : Whose) (option : ℕ) (side : Side) (enable : Bool) → Leaves (askOf s option whose side enable .did)
+    asked-kept whose option side enable =
+        asked-cases (λ (a : Answer). Leaves (a .did)) (s .sides) side enable _ _ (λ c. h) (λ q r c e. k .asks s side enable q r _ c e h)
 
     -- a refusal returns the state that it was given
-    guarded-kept : (gs : List Guard) (d : Did) → (NoneHolds gs → Leaves d) → Leaves (guarded gs (refused s) (done d) .did)
+    guarded-kept : (gs : List Guard) (a : Answer) → (NoneHolds gs → Leaves (a .did)) → Leaves (guarded gs (refused s) a .did)
     unfolding guarded
-    guarded-kept [] d f = f tt
-    guarded-kept (g ∷ gs) d f =
-        chosen (λ (a : Answer). Leaves (a .did)) (g .holds) (λ e. h) (λ e. guarded-kept gs d (λ n. f (e, n)))
+    guarded-kept [] a f = f tt
+    guarded-kept (g ∷ gs) a f =
+        chosen (λ (a : Answer). Leaves (a .did)) (g .holds) (λ e. h) (λ e. guarded-kept gs a (λ n. f (e, n)))
 
   item-kept : (s : Bulletin) (i : Item) → P s → Leaves (itemRead s i)
   unfolding dataRead
@@ -106,9 +103,20 @@ module _ (P : Bulletin → Type 0) (k : Steps P) where
   unfolding called networkCall askCall suggestCall orderCall defineCall useCall textCall itemSent
   call-kept s (network b a w) h = guarded-kept s h _ _ (λ n. network-kept s b h)
   call-kept s (ask o y w) h =
-      guarded-kept s h _ _ (λ n. asked-kept s h (askedWhose y) o (askedSide bulletinSide o y) (askedEnable y) (n .1 .1 .0))
+      guarded-kept s h _ _ (λ n. asked-kept s h (askedWhose y) o (askedSide End.Bulletin o y) (askedEnable y))
   call-kept s (suggest v w) h = guarded-kept s h _ _ (λ n. k .others refl refl h)
   call-kept s (order c bc tc w) h = guarded-kept s h _ _ (λ n. h)
   call-kept s (define x t w) h = guarded-kept s h _ _ (λ n. k .defines s x t w n h)
   call-kept s (useMacro x w) h = guarded-kept s h _ _ (λ n. h)
   call-kept s (text i w) h = guarded-kept s h _ _ (λ n. k .others refl refl h)
+
+  -- and so does every answer to a list of calls
+  pub answers-kept : (s : Bulletin) (cs : List Call) → P s → (a : Answer) → List·Memᴰ a (answersFrom s cs) → Leaves (a .did)
+  unfolding answersFrom
+  answers-kept s [] h a m = absurd (List·Memᴰ·not-nil m)
+  answers-kept s (c ∷ cs) h a m =
+      let n = call-kept s c h in
+      ⊎-elim
+      (λ (e : a ≡ called s c). rw e n)
+      (λ (r : List·Memᴰ a (answersFrom (called s c .did .state) cs)). answers-kept (called s c .did .state) cs n a r)
+      (List·Memᴰ·cases-cons m)

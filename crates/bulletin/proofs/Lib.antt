@@ -2,3 +2,10 @@ pub mod LimitsBytes
 pub mod Limits
 pub mod Invariant
 pub mod Apart
+pub mod EmptyTable
+pub mod Meeting
+pub mod Answering
+pub mod Rooms
+pub mod Bodies
+pub mod ItemBytes
+pub mod Determined

@@ -1,37 +1,38 @@
 -- One call fits its lent buffers.
-use mathlib.Core.Bool.{Bool, true, false, not}
+use mathlib.Core.Bool.{Bool, not}
 use mathlib.Core.List.{List, [], _∷_}
 use Prim.Native.Nat.{ℕ}
 use native.Mathlib.Omega.{arith}
 use lib.Dec.{eqb, lit≤}
 use Rattle.lists.proofs.Lengths.{chosen, either}
-use Rattle.codes.specs.Answers.{noRoom, guarded}
-use Rattle.codes.specs.Telnet.{IAC, NAOCRD, BM, DR, DS, whoseOf, enables}
+use Rattle.codes.specs.Answers.{noRoom, noWire, guarded}
+use Rattle.codes.specs.Telnet.{IAC, NAOCRD, DR, DS}
 use Rattle.codes.specs.declared.Note.{Note}
 use Rattle.codes.specs.declared.Verb.{Verb}
-use Rattle.codes.specs.declared.Whose.{Whose}
-use Rattle.negotiation.specs.declared.Asked.{Asked}
-use Rattle.negotiation.specs.declared.Asked.the-variants.{Already, Moves}
-use Rattle.negotiation.specs.declared.Side.{Side}
+use Rattle.keys.specs.Keys.{badCommand}
+use Rattle.negotiation.specs.declared.End.{End}
 use Rattle.negotiation.specs.declared.Side.the-variants.{Echo, BulletinSga, Rcte, Macro, PrinterSga, Returns, Uncarried}
-use Rattle.negotiation.specs.Table.{heard, asked, isAlready}
-use Rattle.negotiation.specs.Carried.{bulletinSide, standing, free, isCarried, clashes, declined, replyBytes, askedSide, askedWhose, askedEnable, heardBy, askedTo, askedBy}
+use Rattle.negotiation.specs.Carried.{replyBytes, heardBy, askedSide, askedWhose, askedEnable}
 use Rattle.reader.specs.declared.Item.{Item}
 use Rattle.reader.specs.declared.Item.the-variants.{Nothing, Data, Negotiated, BodyEnd, StrayCommand}
-use Rattle.reader.specs.Reading.{idle, read, byOption}
+use Rattle.reader.specs.Reading.{idle, read}
 use Rattle.bodies.specs.declared.MacroReply.{MacroReply}
 use Rattle.bodies.specs.declared.MacroReply.the-variants.{Accept, Refuse, PleaseCancel}
 use Rattle.bodies.specs.declared.ReplyBody.{ReplyBody}
 use Rattle.bodies.specs.declared.ValueBody.{ValueBody}
 use Rattle.bodies.specs.MacroBodies.{replyBody}
 use Rattle.bodies.specs.ValueBodies.{isBadValue, valueBody}
-use Rattle.definitions.specs.Sending.{sentOf, isPending, isAccepted, isTooLong}
+use Rattle.definitions.specs.Sending.{Definitions, sentOf, isPending, isAccepted, isTooLong, definingBytes}
 use Rattle.bulletin.specs.State.{Bulletin, withReader, macrosOn, returnsOn, rcteOn, handlingNow, definitionsNow, sends, nothing, notes, Answer}
-use Rattle.bulletin.specs.Network.{dataRead, sideMoved, sideHeard, negotiationRead, replied, replyRead, valueRead, optionRead, bodyRead, itemRead, networkRead}
-use Rattle.bulletin.specs.Calls.{noWire, networkCall, askCall, suggestCall, badOrder, orderCall, defineCall, useCall, badItem, itemSent, textCall}
+use Rattle.bulletin.specs.Network.{dataRead, sideMoved, negotiationRead, replied, replyRead, valueRead, bodyHandled, bodyRead, itemRead, networkRead}
+use Rattle.bulletin.specs.Calls.{networkCall, askCall, suggestCall, badOrder, orderCall, defineCall, useCall, itemSent, textCall}
 use Rattle.bulletin.specs.Session.{network, ask, suggest, order, define, useMacro, text, called}
 use Rattle.bulletin.specs.Limits.{FitsWire, Fits, NetworkFits, MoveFits, SuggestionFits, OrderFits, DefineFits, ItemFits, CallFits}
 use Rattle.negotiation.proofs.Replies.{reply-long}
+use Rattle.negotiation.proofs.Outcomes.{asked-cases}
+use Rattle.subnegotiation.specs.declared.Checked.{Checked}
+use Rattle.subnegotiation.specs.declared.Checked.the-variants.{Noted}
+use Rattle.subnegotiation.specs.Checks.{checked}
 use Rattle.bulletin.proofs.LimitsBytes.{frame-long, define-long, cancel-long, order-long, item-long, stored-long}
 
 sent : {bytes : List ℕ} {s : Bulletin} → FitsWire bytes → Fits (sends bytes s)
@@ -50,22 +51,18 @@ move-fits s BulletinSga q reply l = sent (omega arith)
 move-fits s PrinterSga q reply l = sent (omega arith)
 move-fits s Uncarried q reply l = sent (omega arith)
 
+-- what a negotiation comes to is answered by three bytes at most
 negotiation-fits : (s : Bulletin) (v : Verb) (option : ℕ) → Fits (negotiationRead s v option)
-unfolding negotiationRead sideHeard heardBy
+unfolding negotiationRead
 negotiation-fits s v option =
-    let whose = whoseOf v in
-    let side = bulletinSide whose option in
-    let h = heard (enables v) (free (s .sides) side) (standing (s .sides) side) in
-    either Fits (isCarried side)
-    (move-fits s side (h .next) (replyBytes whose (h .reply) option) (reply-long whose (h .reply) option))
-    (sent (omega (arith, reply-long whose (declined (enables v)) option)))
+    let t = heardBy End.Bulletin (s .sides) v option in
+    move-fits s (t .side) (t .next) (replyBytes (t .whose) (t .reply) option) (reply-long (t .whose) (t .reply) option)
 
 module _ (s : Bulletin) where
   replied-fits : (r : MacroReply) → Fits (replied s r)
   replied-fits (Accept x) = sent (lit≤ tt)
   replied-fits (Refuse x) = sent (lit≤ tt)
-  replied-fits (PleaseCancel x) =
-      either Fits (isAccepted (sentOf (s .table) x)) (sent (omega (arith, cancel-long x))) (sent (lit≤ tt))
+  replied-fits (PleaseCancel x) = sent (either FitsWire (isAccepted (sentOf (s .table) x)) (omega (arith, cancel-long x)) (lit≤ tt))
 
   reply-fits : (b : ReplyBody) → Fits (replyRead s b)
   reply-fits ReplyBody.Unreadable = noted
@@ -75,17 +72,15 @@ module _ (s : Bulletin) where
   value-fits ValueBody.Unreadable = noted
   value-fits (ValueBody.Readable v) = sent (lit≤ tt)
 
-  option-fits : (option : ℕ) (body : List ℕ) → Fits (optionRead s option body)
-  unfolding optionRead
-  option-fits option body =
-      either Fits (eqb option NAOCRD) (either Fits (returnsOn s) (value-fits (valueBody DR body)) noted)
-      (either Fits (eqb option BM) (either Fits (macrosOn s) (reply-fits (replyBody body)) noted) noted)
+  handled-fits : (body : List ℕ) (c : Checked) → Fits (bodyHandled s body c)
+  handled-fits body (Noted n) = noted
+  handled-fits body Checked.Rcte = noted
+  handled-fits body Checked.Returns = value-fits (valueBody DR body)
+  handled-fits body Checked.Macro = reply-fits (replyBody body)
 
   body-fits : (marred : Bool) (body : List ℕ) → Fits (bodyRead s marred body)
-  unfolding bodyRead byOption
-  body-fits true body = noted
-  body-fits false [] = noted
-  body-fits false (option ∷ rest) = option-fits option (option ∷ rest)
+  unfolding bodyRead
+  body-fits marred body = handled-fits body (checked End.Bulletin (s .sides) marred body)
 
 read-fits : (s : Bulletin) (i : Item) → Fits (itemRead s i)
 unfolding dataRead
@@ -108,6 +103,10 @@ order-fits cmd breaks sends = omega (arith, order-long cmd breaks sends)
 pub define-fits : DefineFits
 define-fits t x bytes e = omega (arith, define-long x bytes, stored-long t x bytes e)
 
+-- .. and one that is too long writes nothing
+pub defining-fits : (t : Definitions) (x : ℕ) (bytes : List ℕ) → FitsWire (definingBytes t x bytes)
+defining-fits t x bytes = chosen FitsWire (isTooLong t x bytes) (λ e. lit≤ tt) (define-fits t x bytes)
+
 pub item-fits : ItemFits
 unfolding itemSent
 item-fits s k = sent (omega (arith, item-long (definitionsNow s) (handlingNow s) k))
@@ -119,22 +118,13 @@ Fitting a = Fits (a .did)
 refuses : (s : Bulletin) → Fits (nothing s)
 refuses s = sent (lit≤ tt)
 
-asks : (s : Bulletin) (whose : Whose) (option : ℕ) (side : Side) (enable : Bool) (a : Asked)
-    → Fits (askedTo (s .sides) whose option side enable (λ q reply. sideMoved s side q reply) (nothing s) a)
-asks s whose option side enable Already = refuses s
-asks s whose option side enable (Moves q r) = move-fits s side q (replyBytes whose r option) (reply-long whose r option)
-
 pub call-fits : CallFits
-unfolding called networkCall askCall suggestCall orderCall defineCall useCall textCall askedBy guarded
+unfolding called networkCall askCall suggestCall orderCall defineCall useCall textCall guarded
 call-fits s (network b h w) = either Fitting (noRoom h w) (refuses s) (network-fits s b)
 call-fits s (ask o y w) =
-    let side = askedSide bulletinSide o y in
-    let enable = askedEnable y in
-    let a = asked enable (standing (s .sides) side) in
+    let side = askedSide End.Bulletin o y in
     either Fitting (noWire w) (refuses s)
-    (either Fitting (not (isCarried side)) (refuses s)
-    (either Fitting (clashes (s .sides) side enable) (refuses s)
-    (either Fitting (isAlready a) (refuses s) (asks s (askedWhose y) o side enable a))))
+    (asked-cases Fitting (s .sides) side (askedEnable y) _ _ (λ c. refuses s) (λ q r n e. move-fits s side q (replyBytes (askedWhose y) r o) (reply-long (askedWhose y) r o)))
 call-fits s (suggest v w) =
     either Fitting (noWire w) (refuses s)
     (either Fitting (not (returnsOn s)) (refuses s)
@@ -157,5 +147,5 @@ call-fits s (useMacro x w) =
     (either Fitting (not (isAccepted (sentOf (s .table) x))) (refuses s) (sent (lit≤ tt)))))
 call-fits s (text k w) =
     either Fitting (noWire w) (refuses s)
-    (either Fitting (badItem k) (refuses s)
+    (either Fitting (badCommand k) (refuses s)
     (either Fitting (s .awaiting) (refuses s) (item-fits s k)))

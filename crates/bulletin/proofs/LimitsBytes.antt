@@ -11,7 +11,7 @@ use Rattle.lists.specs.Choice.{pick, between}
 use Rattle.lists.specs.Lists.{joined}
 use Rattle.lists.proofs.Lengths.{chosen, either, joined-within}
 use Rattle.lists.proofs.Tables.{both-right}
-use Rattle.codes.specs.Telnet.{IAC, RCTE, BM, DEFINE}
+use Rattle.codes.specs.Telnet.{IAC, BM, DEFINE}
 use Rattle.keys.specs.declared.Key.{Key}
 use Rattle.keys.specs.declared.Key.the-variants.{Char, Line, Command}
 use Rattle.wire.specs.Frames.{coded, doubled, frame}
@@ -22,7 +22,7 @@ use Rattle.definitions.specs.Sending.{Definitions, sentOf, isFree, stored, stor
 use Rattle.disposition.specs.declared.Handling.{Handling}
 use Rattle.disposition.specs.declared.Handling.the-variants.{Sender, Receiver}
 use Rattle.disposition.specs.Returns.{padded, lineBytes, returnBytes, itemData}
-use Rattle.bulletin.specs.Calls.{pairBytes, orderBytes, itemBytes}
+use Rattle.bulletin.specs.Calls.{pairBytes, orderBody, orderBytes, itemBytes}
 
 doubled-long : (bs : List ℕ) → length (doubled bs) ≤ 2 * length bs
 doubled-long bs = joined-within coded 2 coded-long bs
@@ -40,19 +40,20 @@ define-long x text = omega (arith, frame-long (BM ∷ DEFINE ∷ x ∷ length (s
 pub cancel-long : (x : ℕ) → length (defineBytes x (x ∷ [])) ≤ 16
 cancel-long x = omega (arith, define-long x (x ∷ []), doubled-long (x ∷ []))
 
+pair-long : (b : Bool) (pair : ℕ) → length (pairBytes b pair) ≤ 2
+pair-long true pair = lit≤ tt
+pair-long false pair = lit≤ tt
+
+-- an order's option, its cmd and two pairs at most
+pub body-long : (cmd breaks sends : ℕ) → length (orderBody cmd breaks sends) ≤ 6
+body-long cmd breaks sends = simp length-append (omega (arith, pair-long (setsBreaks cmd) breaks, pair-long (setsSends cmd) sends))
+
 pub order-long : (cmd breaks sends : ℕ) → length (orderBytes cmd breaks sends) ≤ 16
 unfolding orderBytes
-order-long cmd breaks sends =
-    let one = pair-long (setsBreaks cmd) breaks in
-    let two = pair-long (setsSends cmd) sends in
-    omega (arith, simp length-append at (frame-long (RCTE ∷ cmd ∷ (pairBytes (setsBreaks cmd) breaks ++ pairBytes (setsSends cmd) sends))))
-  where
-    pair-long : (b : Bool) (pair : ℕ) → length (pairBytes b pair) ≤ 2
-    pair-long true pair = lit≤ tt
-    pair-long false pair = lit≤ tt
+order-long cmd breaks sends = omega (arith, frame-long (orderBody cmd breaks sends), body-long cmd breaks sends)
 
 -- at most 250 NULs behind a carriage return
-abbrev Padded : List ℕ → Type 0
+abbrev pub Padded : List ℕ → Type 0
 Padded bytes = length bytes ≤ 252
 
 padded-long : (n a b : ℕ) → Padded (padded n (a ∷ b ∷ []))
@@ -70,7 +71,7 @@ return-long : (h : Handling) → Padded (returnBytes h)
 return-long (Sender n) = either Padded (eqb n 252) (lit≤ tt) (padded-long n 13 0)
 return-long (Receiver n) = lit≤ tt
 
-data-long : (h : Handling) (k : Key) → Padded (itemData h k)
+pub data-long : (h : Handling) (k : Key) → Padded (itemData h k)
 unfolding itemData
 data-long h (Char b) = either Padded (eqb b 13) (return-long h) (lit≤ tt)
 data-long h Line = line-long h

@@ -2,43 +2,45 @@
 use mathlib.Core.Bool.{Bool, true, false, _&&_, _||_, not}
 use mathlib.Core.List.{List, [], _∷_, _++_}
 use Prim.Native.Nat.{ℕ, _/_, _%_}
-use lib.Dec.{ltb, leb, eqb}
-use Rattle.codes.specs.Answers.{noRoom, wireRoom, Guard, when, guarded}
-use Rattle.codes.specs.Telnet.{RCTE, DS, IAC, plainCommand}
-use Rattle.codes.specs.declared.Code.the-variants.{NoRoom, BadCommand, AlreadySo, NotInForce, BadMacroByte, TooLong, Unanswered, NoText, BadValue, OutputWaits}
+use lib.Dec.{leb, eqb}
+use Rattle.lists.specs.Choice.{pick}
+use Rattle.codes.specs.Answers.{noRoom, noWire, Guard, when, guarded}
+use Rattle.codes.specs.Telnet.{RCTE, DS, IAC}
+use Rattle.codes.specs.declared.Code.the-variants.{NoRoom, BadCommand, NotInForce, BadMacroByte, TooLong, Unanswered, NoText, BadValue, OutputWaits}
 use Rattle.codes.specs.declared.Whose.{Whose}
 use Rattle.keys.specs.declared.Key.{Key}
 use Rattle.keys.specs.declared.Key.the-variants.{Char, Line, Command}
+use Rattle.keys.specs.Keys.{badCommand}
 use Rattle.wire.specs.Frames.{frame, command}
+use Rattle.negotiation.specs.declared.End.{End}
 use Rattle.negotiation.specs.declared.Side.{Side}
-use Rattle.negotiation.specs.Carried.{bulletinSide, askedSide, askedWhose, askedEnable, askedBy, askGuards}
+use Rattle.negotiation.specs.Carried.{replyBytes, askedSide, askedWhose, askedEnable, askingOf, askedBy}
 use Rattle.bodies.specs.RcteBodies.{setsBreaks, setsSends}
-use Rattle.bodies.specs.ValueBodies.{isBadValue}
-use Rattle.definitions.specs.Sending.{Definitions, sentOf, isPending, isAccepted, isTooLong, defining, defineBytes, allDataBytes, acceptedText}
+use Rattle.definitions.specs.Sending.{Definitions, sentOf, isPending, isAccepted, isTooLong, defining, defineBytes, allDataBytes, acceptedText, statusOf}
+use Rattle.definitions.specs.declared.Status.{Status}
 use Rattle.disposition.specs.declared.Handling.{Handling}
-use Rattle.disposition.specs.Returns.{withDs, suggestion, itemData, awaits, isReturn}
-use Rattle.bulletin.specs.State.{Bulletin, withTable, withValues, withAwaiting, rcteOn, macrosOn, returnsOn, handlingNow, definitionsNow, Did, sends, nothing, Answer, done, refused}
+use Rattle.disposition.specs.Returns.{withDs, suggestion, suggestGuards, itemData, awaits, isReturn}
+use Rattle.bulletin.specs.declared.Output.{Output}
+use Rattle.bulletin.specs.declared.Output.the-variants.{Ready, Waiting}
+use Rattle.bulletin.specs.State.{Bulletin, withTable, withValues, withAwaiting, rcteOn, macrosOn, returnsOn, handlingNow, definitionsNow, Did, sends, Answer, done, refused}
 use Rattle.bulletin.specs.Network.{networkRead, sideMoved}
-
-abbrev pub noWire : ℕ → Bool
-noWire wire = ltb wire wireRoom
 
 unfoldable pub networkCall : Bulletin → ℕ → ℕ → ℕ → Answer
 networkCall s b host wire = guarded (when (noRoom host wire) NoRoom ∷ []) (refused s) (done (networkRead s b))
 
-abbrev pub askOf : Bulletin → ℕ → Whose → Side → Bool → ℕ → Answer
-askOf s option whose side enable wire =
-    guarded (when (noWire wire) NoRoom ∷ askGuards (s .sides) side enable) (refused s)
-    (done (askedBy (s .sides) whose option side enable (λ q reply. sideMoved s side q reply) (nothing s)))
+abbrev pub askOf : Bulletin → ℕ → Whose → Side → Bool → Answer
+askOf s option whose side enable =
+    askedBy (refused s) (λ q reply. done (sideMoved s side q (replyBytes whose reply option))) (askingOf (s .sides) side enable)
 
 unfoldable pub askCall : Bulletin → ℕ → ℕ → ℕ → Answer
-askCall s option way wire = askOf s option (askedWhose way) (askedSide bulletinSide option way) (askedEnable way) wire
+askCall s option way wire =
+    guarded (when (noWire wire) NoRoom ∷ []) (refused s)
+    (askOf s option (askedWhose way) (askedSide End.Bulletin option way) (askedEnable way))
 
 -- DS, suggested by the bulletin end; the value that counts is its own
 unfoldable pub suggestCall : Bulletin → ℕ → ℕ → Answer
 suggestCall s v wire =
-    guarded (when (noWire wire) NoRoom ∷ when (not (returnsOn s)) NotInForce ∷ when (isBadValue v) BadValue ∷ when (eqb v (s .values .ds)) AlreadySo ∷ [])
-    (refused s)
+    guarded (when (noWire wire) NoRoom ∷ suggestGuards (returnsOn s) (s .values .ds) v) (refused s)
     (done (sends (suggestion DS v) (withValues s (withDs (s .values) v))))
 
 -- an order's cmd is 0, or odd and at most 31
@@ -50,40 +52,48 @@ abbrev pub pairBytes : Bool → ℕ → List ℕ
 pairBytes true pair = pair / 256 % 256 ∷ pair % 256 ∷ []
 pairBytes false pair = []
 
+abbrev pub orderPairs : ℕ → ℕ → ℕ → List ℕ
+orderPairs cmd breaks sends = pairBytes (setsBreaks cmd) breaks ++ pairBytes (setsSends cmd) sends
+
+abbrev pub orderBody : ℕ → ℕ → ℕ → List ℕ
+orderBody cmd breaks sends = RCTE ∷ cmd ∷ orderPairs cmd breaks sends
+
 unfoldable pub orderBytes : ℕ → ℕ → ℕ → List ℕ
-orderBytes cmd breaks sends = frame (RCTE ∷ cmd ∷ (pairBytes (setsBreaks cmd) breaks ++ pairBytes (setsSends cmd) sends))
+orderBytes cmd breaks sends = frame (orderBody cmd breaks sends)
+
+abbrev pub orderGuards : Bulletin → ℕ → ℕ → List Guard
+orderGuards s cmd wire = when (noWire wire) NoRoom ∷ when (not (rcteOn s)) NotInForce ∷ when (badOrder cmd) BadValue ∷ []
 
 unfoldable pub orderCall : Bulletin → ℕ → ℕ → ℕ → ℕ → Answer
-orderCall s cmd bc tc wire =
-    guarded (when (noWire wire) NoRoom ∷ when (not (rcteOn s)) NotInForce ∷ when (badOrder cmd) BadValue ∷ [])
-    (refused s)
-    (done (sends (orderBytes cmd bc tc) s))
+orderCall s cmd bc tc wire = guarded (orderGuards s cmd wire) (refused s) (done (sends (orderBytes cmd bc tc) s))
 
-abbrev pub defineGuards : Bulletin → ℕ → List ℕ → ℕ → List Guard
-defineGuards s x t wire =
+abbrev pub defineGuardsBeforeSize : Bulletin → ℕ → ℕ → List Guard
+defineGuardsBeforeSize s x wire =
     when (noWire wire) NoRoom
     ∷ when (not (macrosOn s)) NotInForce
     ∷ when (eqb x IAC) BadMacroByte
     ∷ when (isPending (sentOf (s .table) x)) Unanswered
-    ∷ when (isTooLong (s .table) x t) TooLong
     ∷ []
+
+abbrev pub defineGuards : Bulletin → ℕ → List ℕ → ℕ → List Guard
+defineGuards s x t wire = defineGuardsBeforeSize s x wire ++ when (isTooLong (s .table) x t) TooLong ∷ []
 
 unfoldable pub defineCall : Bulletin → ℕ → List ℕ → ℕ → Answer
 defineCall s x t wire =
     guarded (defineGuards s x t wire) (refused s)
     (done (sends (defineBytes x t) (withTable s (defining (s .table) x t))))
 
+abbrev pub useGuards : Bulletin → ℕ → ℕ → List Guard
+useGuards s x wire =
+    when (noWire wire) NoRoom
+    ∷ when (not (macrosOn s)) NotInForce
+    ∷ when (s .awaiting) OutputWaits
+    ∷ when (not (isAccepted (sentOf (s .table) x))) NoText
+    ∷ []
+
 -- use of a macro: its byte goes out bare
 unfoldable pub useCall : Bulletin → ℕ → ℕ → Answer
-useCall s x wire =
-    guarded (when (noWire wire) NoRoom ∷ when (not (macrosOn s)) NotInForce ∷ when (s .awaiting) OutputWaits ∷ when (not (isAccepted (sentOf (s .table) x))) NoText ∷ [])
-    (refused s)
-    (done (sends (x ∷ []) s))
-
-abbrev pub badItem : Key → Bool
-badItem (Char b) = false
-badItem Line = false
-badItem (Command c) = not (plainCommand c)
+useCall s x wire = guarded (useGuards s x wire) (refused s) (done (sends (x ∷ []) s))
 
 -- the bytes of an item: its data, byte by byte; a Command as it is
 abbrev pub itemBytes : Definitions → Handling → Key → List ℕ
@@ -91,16 +101,18 @@ itemBytes t h (Char b) = allDataBytes t (itemData h (Char b))
 itemBytes t h Line = allDataBytes t (itemData h Line)
 itemBytes t h (Command c) = command c
 
+-- output waits behind a carriage return that is sent with 254 in force
+abbrev pub waitsAfter : Bulletin → Key → Bool
+waitsAfter s k = s .awaiting || (isReturn k && awaits (handlingNow s))
+
 unfoldable pub itemSent : Bulletin → Key → Did
-itemSent s k =
-    sends (itemBytes (definitionsNow s) (handlingNow s) k)
-    (withAwaiting s (s .awaiting || (isReturn k && awaits (handlingNow s))))
+itemSent s k = sends (itemBytes (definitionsNow s) (handlingNow s) k) (withAwaiting s (waitsAfter s k))
+
+abbrev pub textGuards : Bulletin → Key → ℕ → List Guard
+textGuards s k wire = when (noWire wire) NoRoom ∷ when (badCommand k) BadCommand ∷ when (s .awaiting) OutputWaits ∷ []
 
 unfoldable pub textCall : Bulletin → Key → ℕ → Answer
-textCall s k wire =
-    guarded (when (noWire wire) NoRoom ∷ when (badItem k) BadCommand ∷ when (s .awaiting) OutputWaits ∷ [])
-    (refused s)
-    (done (itemSent s k))
+textCall s k wire = guarded (textGuards s k wire) (refused s) (done (itemSent s k))
 
 -- the data that a text item and a use of a macro stand for
 unfoldable pub textData : Bulletin → Key → List ℕ
@@ -108,3 +120,13 @@ textData s k = itemData (handlingNow s) k
 
 unfoldable pub useData : Bulletin → ℕ → List ℕ
 useData s x = acceptedText (sentOf (s .table) x)
+
+-- what a host may ask before it sends: how a macro byte stands, who handles carriage returns and how, whether output waits
+abbrev pub macroStatus : Bulletin → ℕ → Status
+macroStatus s x = statusOf (sentOf (definitionsNow s) x)
+
+abbrev pub returnsReport : Bulletin → Handling
+returnsReport s = handlingNow s
+
+abbrev pub outputNow : Bulletin → Output
+outputNow s = pick (s .awaiting) Waiting Ready

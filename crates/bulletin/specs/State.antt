@@ -14,8 +14,7 @@ use Rattle.reader.specs.Reading.{Reader, idle}
 use Rattle.definitions.specs.Sending.{Definitions, noDefinitions}
 use Rattle.disposition.specs.declared.Values.{Values}
 use Rattle.disposition.specs.declared.Handling.{Handling}
-use Rattle.disposition.specs.declared.Handling.the-variants.{Receiver}
-use Rattle.disposition.specs.Returns.{unspoken, handling, awaits}
+use Rattle.disposition.specs.Returns.{unspoken, handling, handlingWhile, awaits}
 
 -- awaiting: output waits (NAOCRD 254)
 pub record Bulletin : Type 0 where
@@ -55,7 +54,7 @@ abbrev pub returnsOn : Bulletin → Bool
 returnsOn s = isYes (s .sides .naocrd)
 
 abbrev pub handlingNow : Bulletin → Handling
-handlingNow s = pick (returnsOn s) (handling (s .values)) (Receiver 255)
+handlingNow s = handlingWhile (returnsOn s) (s .values)
 
 -- bytes that BM does not stand for are sent as they are when it is not in force
 abbrev pub definitionsNow : Bulletin → Definitions

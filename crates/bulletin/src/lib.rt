@@ -1,1 +1,45 @@
-// The bulletin end: the serving host.
+// The bulletin end: the serving host. One state by value, and its calls.
+use codes::Code;
+use codes::Note;
+use definitions::SendingTable;
+use disposition::Values;
+use negotiation::Sides;
+use reader::Reader;
+
+mod body;
+pub mod calls;
+mod items;
+mod moves;
+mod network;
+
+// The whole state: negotiation, reader, macros, the two carriage-return values, and whether output waits (NAOCRD 254).
+pub struct Bulletin {
+    pub sides: Sides,
+    pub reader: Reader,
+    pub table: SendingTable,
+    pub values: Values,
+    pub awaiting: bool,
+}
+
+// A step: its note, how many bytes went to the host and to the wire, and the state after it.
+pub struct Step {
+    pub note: Note,
+    pub host: usize,
+    pub wire: usize,
+    pub state: Bulletin,
+}
+
+// A call's answer.
+pub struct Answer {
+    pub code: Code,
+    pub note: Note,
+    pub host: usize,
+    pub wire: usize,
+    pub state: Bulletin,
+}
+
+// Whether a text item or a macro can be sent now, or has to wait for a data byte.
+pub enum Output {
+    Ready,
+    Waiting,
+}

@@ -2,7 +2,7 @@
 use mathlib.Core.Bool.{Bool, _||_}
 use mathlib.Core.List.{List, [], _∷_}
 use Prim.Native.Nat.{ℕ}
-use lib.Dec.{ltb}
+use lib.Dec.{ltb, eqb}
 use Rattle.lists.specs.Choice.{pick}
 use Rattle.codes.specs.declared.Code.{Code}
 use Rattle.codes.specs.declared.Code.the-variants.{Done, NoRoom, QueueFull, BadCommand, NotCarried, AlreadySo, NotInForce, BadMacroByte, TooLong, Unanswered, NoText, EchoAgainstRcte, BadValue, OutputWaits}
@@ -50,6 +50,9 @@ wireRoom = 2048
 abbrev pub noRoom : ℕ → ℕ → Bool
 noRoom paper wire = ltb paper paperRoom || ltb wire wireRoom
 
+abbrev pub noWire : ℕ → Bool
+noWire wire = ltb wire wireRoom
+
 -- a refusal and its condition
 pub record Guard : Type 0 where
   pub holds : Bool
@@ -57,6 +60,15 @@ pub record Guard : Type 0 where
 
 abbrev pub when : Bool → Code → Guard
 when b c = record { holds = b; code = c }
+
+-- every code but Done is a refusal
+abbrev pub isDone : Code → Bool
+isDone c = eqb (codeNumber c) 0
+
+-- the code of the first guard that holds, in the order of the list; Done if none does
+unfoldable pub refusalOf : List Guard → Code
+refusalOf [] = Done
+refusalOf (g ∷ gs) = pick (g .holds) (g .code) (refusalOf gs)
 
 -- a call's answer: that of the first guard that holds, in the order of the list, else what the call does
 unfoldable pub guarded : {A : Type 0} → List Guard → (Code → A) → A → A

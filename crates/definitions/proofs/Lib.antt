@@ -1,1 +1,12 @@
+pub mod Numbers
 pub mod Views
+pub mod Keeping
+pub mod Restating
+pub mod Totals
+pub mod Defining
+pub mod Answers
+pub mod AcceptedTexts
+pub mod DataBytes
+pub mod DefineBodies
+pub mod Cancelling
+pub mod Determined

@@ -1,22 +1,44 @@
 -- The sending table as the code keeps it: a status number for each byte, and the texts packed as the receiving table's are.
 use mathlib.Core.Path.{_≡_}
 use mathlib.Core.Bool.{Bool, true, false, not}
-use mathlib.Core.List.{List}
+use mathlib.Core.List.{List, [], map}
 use Prim.Native.Nat.{ℕ, _≤_}
 use lib.Dec.{eqb}
-use lib.ListN.{length, getD}
+use lib.ListN.{length, getD, set}
 use Rattle.lists.specs.Choice.{pick}
-use Rattle.lists.specs.Lists.{paired}
+use Rattle.lists.specs.Lists.{sum, paired}
+use Rattle.lists.specs.Buffers.{Wrote}
 use Rattle.macros.specs.declared.Texts.{Texts}
-use Rattle.macros.specs.Texts.{Entry, plain, textRoom}
-use Rattle.macros.specs.Packed.{viewTexts, textOf, isUnmarked, CleanTexts}
+use Rattle.macros.specs.Texts.{Entry, plain, Table, textRoom, defined}
+use Rattle.macros.specs.Packed.{viewTexts, textOf, isUnmarked, CleanTexts, Changed}
 use Rattle.definitions.specs.declared.Status.{Status}
 use Rattle.definitions.specs.declared.Status.the-variants.{Free, Pending, PendingFree, Accepted, Refused}
 use Rattle.definitions.specs.declared.SendingTable.{SendingTable}
-use Rattle.definitions.specs.Sending.{Sent, free, pending, pendingFree, accepted, refused, Definitions, statusNumber}
+use Rattle.definitions.specs.declared.Defined.{Defined}
+use Rattle.definitions.specs.declared.Cancelled.{Cancelled}
+use Rattle.definitions.specs.declared.Fitted.{Fitted}
+use Rattle.definitions.specs.Sending.{
+  Sent,
+  free,
+  pending,
+  pendingFree,
+  accepted,
+  refused,
+  Definitions,
+  statusNumber,
+  sentOf,
+  isAccepted,
+  stored,
+  storedRoom,
+  isTooLong,
+  defining,
+  definingBytes,
+  cancelBytes,
+  cancelled,
+}
 
 -- every number stands for a status
-abbrev pub statusFrom : ℕ → Status
+unfoldable pub statusFrom : ℕ → Status
 statusFrom n =
     pick (eqb n (statusNumber Free)) Free
     (pick (eqb n (statusNumber Pending)) Pending
@@ -57,7 +79,7 @@ viewTable t = paired sentBy plain (t .statuses) (viewTexts (keptTexts t))
 
 -- each number is that of a status, and just the bytes with a text have a mark
 pub record CleanTable (t : SendingTable) : Type 0 where
-  pub numbers : (x : ℕ) → getD (t .statuses) x 0 ≤ 4
+  pub numbers : (x : ℕ) → getD (t .statuses) x 0 ≤ statusNumber Refused
   pub marked : (x : ℕ) → isUnmarked (t .texts .marks) x ≡ not (hasText (statusFrom (getD (t .statuses) x 0)))
   pub texts : CleanTexts (t .texts)
 
@@ -66,3 +88,43 @@ pub record WholeTable (t : SendingTable) : Type 0 where
   pub statuses : length (t .statuses) ≡ 256
   pub marks : length (t .texts .marks) ≡ 256
   pub cells : length (t .texts .cells) ≡ textRoom
+
+-- a clean struct is known to the byte by the table that it stands for
+abbrev pub CleanDetermined : Type 0
+CleanDetermined = (t r : SendingTable) → WholeTable t → WholeTable r → CleanTable t → CleanTable r → viewTable t ≡ viewTable r → t ≡ r
+
+-- another status of X, and other texts
+abbrev pub restated : SendingTable → ℕ → Texts → Status → SendingTable
+restated t x texts s = record { statuses = set (t .statuses) x (statusNumber s); texts = texts }
+
+-- the same statuses without their texts: all that the bytes of data depend on
+abbrev pub bareTable : List ℕ → Definitions
+bareTable statuses = paired sentBy plain statuses []
+
+-- the stored length of all texts
+unfoldable pub storedTotal : Table → ℕ
+storedTotal table = sum (map (λ (e : Entry). length (stored (textOf e))) table)
+
+-- the table that the code gives back is the rule's, a clean one is clean again, and where nothing was to be done it is the very
+-- struct
+pub record MetTable (d : Definitions) (acts : Bool) (t r : SendingTable) : Type 0 where
+  pub view : viewTable r ≡ d
+  pub clean : CleanTable t → CleanTable r
+  pub same : acts ≡ false → r ≡ t
+
+-- the texts with a new one among them, if that fits
+pub record MetFitted (t : SendingTable) (x : ℕ) (s : List ℕ) (r : Fitted) : Type 0 where
+  pub fits : r .fits ≡ not (isTooLong (viewTable t) x s)
+  pub short : r .fits ≡ true → length (stored s) ≤ storedRoom
+  pub texts : r .fits ≡ true → Changed (defined (viewTexts (keptTexts t)) x s) (keptTexts t) (r .texts)
+
+-- a DEFINE of X as s
+pub record MetDefine (t : SendingTable) (x : ℕ) (s before after : List ℕ) (r : Defined) : Type 0 where
+  pub fits : r .fits ≡ not (isTooLong (viewTable t) x s)
+  pub wire : Wrote (definingBytes (viewTable t) x s) before after (r .wire)
+  pub table : MetTable (pick (isTooLong (viewTable t) x s) (viewTable t) (defining (viewTable t) x s)) (r .fits) t (r .table)
+
+-- a PLEASE CANCEL of X
+pub record MetCancel (t : SendingTable) (x : ℕ) (before after : List ℕ) (r : Cancelled) : Type 0 where
+  pub wire : Wrote (cancelBytes (viewTable t) x) before after (r .wire)
+  pub table : MetTable (cancelled (viewTable t) x) (isAccepted (sentOf (viewTable t) x)) t (r .table)

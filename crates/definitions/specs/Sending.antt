@@ -4,7 +4,7 @@ use mathlib.Core.List.{List, [], _∷_, map}
 use Prim.Native.Nat.{ℕ}
 use lib.ListN.{length, getD, set, replicate}
 use lib.Dec.{ltb, eqb}
-use Rattle.lists.specs.Choice.{pick}
+use Rattle.lists.specs.Choice.{pick, isSame}
 use Rattle.lists.specs.Lists.{sum, joined}
 use Rattle.codes.specs.Telnet.{IAC, BM, DEFINE}
 use Rattle.wire.specs.Frames.{doubled, coded, frame, literal}
@@ -27,6 +27,7 @@ statusOf pendingFree = PendingFree
 statusOf (accepted s) = Accepted
 statusOf refused = Refused
 
+-- the number that the code keeps a status as
 abbrev pub statusNumber : Status → ℕ
 statusNumber Free = 0
 statusNumber Pending = 1
@@ -96,6 +97,18 @@ isTooLong t x s = ltb storedRoom (length (stored s)) || ltb textRoom (sentTotal 
 unfoldable pub defineBytes : ℕ → List ℕ → List ℕ
 defineBytes x s = frame (BM ∷ DEFINE ∷ x ∷ length (stored s) ∷ stored s)
 
+-- what a DEFINE writes: nothing if it is too long
+abbrev pub definingBytes : Definitions → ℕ → List ℕ → List ℕ
+definingBytes t x s = pick (isTooLong t x s) [] (defineBytes x s)
+
+-- a PLEASE CANCEL of an accepted byte is answered by defining it as itself, however long all texts are; that of another byte by
+-- nothing
+abbrev pub cancelBytes : Definitions → ℕ → List ℕ
+cancelBytes t x = pick (isAccepted (sentOf t x)) (defineBytes x (x ∷ [])) []
+
+abbrev pub cancelled : Definitions → ℕ → Definitions
+cancelled t x = pick (isAccepted (sentOf t x)) (defining t x (x ∷ [])) t
+
 -- what an ACCEPT and a REFUSE make of a byte; of one that is not pending, nothing
 abbrev pub onAccept : Sent → Sent
 onAccept free = free
@@ -118,6 +131,14 @@ acceptedText (pending s) = []
 acceptedText pendingFree = []
 acceptedText (accepted s) = s
 acceptedText refused = []
+
+-- accepted, with just this text
+abbrev pub isAcceptedAs : Sent → List ℕ → Bool
+isAcceptedAs free s = false
+isAcceptedAs (pending s′) s = false
+isAcceptedAs pendingFree s = false
+isAcceptedAs (accepted s′) s = isSame s′ s
+isAcceptedAs refused s = false
 
 -- a data byte on the wire: 255 doubled, one that is not free as LITERAL
 unfoldable pub dataBytes : Definitions → ℕ → List ℕ

@@ -1,14 +1,17 @@
 -- Who handles carriage returns, and what a sender that does makes of them.
-use mathlib.Core.Bool.{Bool, true, false}
+use mathlib.Core.Bool.{Bool, true, false, not}
 use mathlib.Core.List.{List, [], _∷_, _++_}
 use Prim.Native.Nat.{ℕ}
 use lib.ListN.{replicate}
 use lib.Dec.{eqb}
 use Rattle.lists.specs.Choice.{pick, between}
+use Rattle.codes.specs.Answers.{Guard, when}
 use Rattle.codes.specs.Telnet.{NAOCRD}
+use Rattle.codes.specs.declared.Code.the-variants.{AlreadySo, NotInForce, BadValue}
 use Rattle.keys.specs.declared.Key.{Key}
 use Rattle.keys.specs.declared.Key.the-variants.{Char, Line, Command}
 use Rattle.wire.specs.Frames.{frame}
+use Rattle.bodies.specs.ValueBodies.{isBadValue}
 use Rattle.disposition.specs.declared.Values.{Values}
 use Rattle.disposition.specs.declared.Handling.{Handling}
 use Rattle.disposition.specs.declared.Handling.the-variants.{Sender, Receiver}
@@ -30,6 +33,14 @@ suggestion who v = frame (NAOCRD ∷ who ∷ v ∷ [])
 -- with DS 0 the sender handles, as DR says; otherwise the receiver does, as DS says
 unfoldable pub handling : Values → Handling
 handling v = pick (eqb (v .ds) 0) (Sender (v .dr)) (Receiver (v .ds))
+
+-- while NAOCRD is not in force, the receiver handles with 255
+abbrev pub handlingWhile : Bool → Values → Handling
+handlingWhile on v = pick on (handling v) (Receiver 255)
+
+-- the refusals of a suggestion behind code 1; own is the value that counts for the end that suggests
+abbrev pub suggestGuards : Bool → ℕ → ℕ → List Guard
+suggestGuards on own v = when (not on) NotInForce ∷ when (isBadValue v) BadValue ∷ when (eqb v own) AlreadySo ∷ []
 
 -- so many NULs behind a carriage return that the sender pads
 unfoldable pub padded : ℕ → List ℕ → List ℕ

@@ -3,7 +3,24 @@ ghost use mathlib.Core.Path.{_≡_};
 ghost use mathlib.Core.List.{[], _∷_};
 ghost use lib.ListN.{replicate};
 ghost use Rattle.lists.specs.Buffers.{RoomFor, Wrote};
-ghost use Rattle.disposition.specs.Returns.{unspoken, withDs, withDr, suggestion, handling, awaits, isReturn, padded, lineBytes, returnBytes};
+ghost use Rattle.disposition.specs.Returns.{
+  unspoken,
+  withDs,
+  withDr,
+  suggestion,
+  handling,
+  handlingWhile,
+  suggestGuards,
+  awaits,
+  isReturn,
+  padded,
+  lineBytes,
+  returnBytes,
+  itemData,
+};
+ghost use Rattle.keys.specs.declared.Key.the-variants.{Char};
+ghost use Rattle.codes.specs.Answers.{refusalOf};
+use codes::Code;
 use codes::NAOCRD;
 use keys::CR;
 use keys::Key;
@@ -11,7 +28,7 @@ use keys::LF;
 use keys::NUL;
 
 // DS and DR as they count until they are suggested.
-pub const UNSPOKEN_DS: u8 = 255;
+const UNSPOKEN_DS: u8 = 255;
 
 const UNSPOKEN_DR: u8 = 0;
 
@@ -75,6 +92,33 @@ pub fn handling_of(v: Values) -> Handling
     }
 }
 
+// While NAOCRD is not in force, the receiver handles with 255.
+pub fn handling_while(on: bool, v: Values) -> Handling
+    ensures { λ r. ⌜ r ≡ handlingWhile on v ⌝ }
+{
+    if on {
+        return handling_of(v);
+    }
+    Handling::Receiver(UNSPOKEN_DS)
+}
+
+// The refusals of a suggestion behind code 1, in their order; own is the value that counts for this end. Done: none.
+pub fn suggest_refusal(on: bool, own: u8, v: u8) -> Code
+    ensures { λ r. ⌜ r ≡ refusalOf (suggestGuards on own v) ⌝ }
+{
+    if !on {
+        return Code::NotInForce;
+    }
+    if bodies::bad_value(v) {
+        return Code::BadValue;
+    }
+    if v == own {
+        Code::AlreadySo
+    } else {
+        Code::Done
+    }
+}
+
 // Whether output waits after a carriage return that was sent.
 pub fn awaits(h: Handling) -> bool
     ensures { λ r. ⌜ r ≡ awaits h ⌝ }
@@ -123,7 +167,7 @@ fn put_padded(second: u8, n: u8, out: &mut [u8]) -> usize
 }
 
 // A Line as this end sends it.
-pub fn put_line(h: Handling, out: &mut [u8]) -> usize
+fn put_line(h: Handling, out: &mut [u8]) -> usize
     requires { ⌜ RoomFor (lineBytes h) (now out) ⌝ }
     ensures { λ r. ⌜ Wrote (lineBytes h) (now (out .entry)) (now (out .exit)) r ⌝ }
 {
@@ -141,7 +185,7 @@ pub fn put_line(h: Handling, out: &mut [u8]) -> usize
 }
 
 // Char(13) as this end sends it.
-pub fn put_return(h: Handling, out: &mut [u8]) -> usize
+fn put_return(h: Handling, out: &mut [u8]) -> usize
     requires { ⌜ RoomFor (returnBytes h) (now out) ⌝ }
     ensures { λ r. ⌜ Wrote (returnBytes h) (now (out .entry)) (now (out .exit)) r ⌝ }
 {
@@ -154,5 +198,29 @@ pub fn put_return(h: Handling, out: &mut [u8]) -> usize
             }
         }
         Handling::Receiver(_) => put_padded(NUL, 0, out),
+    }
+}
+
+// A typed character's data.
+fn put_char(h: Handling, b: u8, out: &mut [u8]) -> usize
+    requires { ⌜ RoomFor (itemData h (Char b)) (now out) ⌝ }
+    ensures { λ r. ⌜ Wrote (itemData h (Char b)) (now (out .entry)) (now (out .exit)) r ⌝ }
+{
+    if b == CR {
+        return put_return(h, out);
+    }
+    out[0] = b;
+    1
+}
+
+// The data of a text item; a Command has none.
+pub fn put_item(h: Handling, k: Key, out: &mut [u8]) -> usize
+    requires { ⌜ RoomFor (itemData h k) (now out) ⌝ }
+    ensures { λ r. ⌜ Wrote (itemData h k) (now (out .entry)) (now (out .exit)) r ⌝ }
+{
+    match k {
+        Key::Char(b) => put_char(h, b, out),
+        Key::Line => put_line(h, out),
+        Key::Command(_) => 0,
     }
 }

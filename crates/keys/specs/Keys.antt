@@ -4,6 +4,7 @@ use mathlib.Core.List.{List, [], _∷_}
 use Prim.Native.Nat.{ℕ, _-_, _/_, _%_, _^_}
 use lib.Dec.{leb, eqb}
 use Rattle.lists.specs.Choice.{pick, between, oneOf}
+use Rattle.codes.specs.Telnet.{plainCommand}
 use Rattle.keys.specs.declared.Key.{Key}
 use Rattle.keys.specs.declared.Key.the-variants.{Char, Line, Command}
 
@@ -45,6 +46,12 @@ abbrev pub isCommand : Key → Bool
 isCommand (Char b) = false
 isCommand Line = false
 isCommand (Command c) = true
+
+-- code 3: a Command outside 241 to 249
+abbrev pub badCommand : Key → Bool
+badCommand (Char b) = false
+badCommand Line = false
+badCommand (Command c) = not (plainCommand c)
 
 -- a class pair is one number, its high byte first, and bit k - 1 of it stands for class k; there are nine classes
 abbrev pub classBit : ℕ → ℕ → ℕ

@@ -1,7 +1,7 @@
 // A key of the printer end's keyboard, and an item of the bulletin end's text.
 ghost use mathlib.Core.Path.{_≡_};
 ghost use Rattle.lists.specs.Buffers.{RoomFor, Wrote};
-ghost use Rattle.keys.specs.Keys.{classOf, keyClass, classBit, inClasses, isCommand, prints, keyPaper};
+ghost use Rattle.keys.specs.Keys.{badCommand, classOf, keyClass, classBit, inClasses, isCommand, prints, keyPaper};
 ghost use Rattle.keys.specs.Packing.{packed, unpacked};
 
 // What Line and Char(13) are on the wire: CR LF and CR NUL.
@@ -16,6 +16,17 @@ pub enum Key {
     Char(u8),
     Line,
     Command(u8),
+}
+
+// A Command outside 241 to 249: code 3 of a key and of a text item.
+pub fn bad_command(k: Key) -> bool
+    ensures { λ r. ⌜ r ≡ badCommand k ⌝ }
+{
+    match k {
+        Key::Char(_) => false,
+        Key::Line => false,
+        Key::Command(c) => !codes::plain_command(c),
+    }
 }
 
 // RFC 726's class of a byte, 0 for none: a digit for each byte, 32 to a row.

@@ -13,3 +13,5 @@ pub mod Copying
 pub mod Behind
 pub mod ReadOff
 pub mod Paired
+pub mod Same
+pub mod Known

@@ -1,9 +1,13 @@
 -- Two lists taken together, element by element.
 use mathlib.Core.Path.{_≡_, refl, sym, ap}
+use mathlib.Core.Bool.{Bool, true, false}
 use mathlib.Core.List.{List, [], _∷_}
 use Prim.Native.Nat.{ℕ, zero, suc, _<_}
 use native.Mathlib.Omega.{arith}
+use borrow.Author.Tests.{eqb-true, eqb-false}
+use lib.Dec.{eqb}
 use lib.ListN.{length, getD, set, replicate}
+use lib.Seq.{getD-set-same, getD-set-other}
 use Rattle.lists.specs.Lists.{paired}
 
 module _ {X Y Z : Type 0} (f : X → Y → Z) (d : Y) where
@@ -37,3 +41,14 @@ module _ {X Y Z : Type 0} (f : X → Y → Z) (d : Y) where
   paired-set (a ∷ xs) [] i x y h = absurd (omega arith)
   paired-set (a ∷ xs) (b ∷ ys) zero x y h = refl
   paired-set (a ∷ xs) (b ∷ ys) (suc i) x y h = ap (λ (l : List Z). f a b ∷ l) (paired-set xs ys i x y (omega arith))
+
+-- what holds at every place of two lists holds after both were changed at one place, if it holds there
+module _ {X Y : Type 0} (P : X → Y → Type 0) (c : X) (d : Y) (l : List X) (m : List Y) (i : ℕ) (x : X) (y : Y) (hl : i < length l) (hm : i < length m) where
+  pub every-set-both : P x y → ((j : ℕ) → P (getD l j c) (getD m j d)) → (j : ℕ) → P (getD (set l i x) j c) (getD (set m i y) j d)
+  every-set-both p h j = go (eqb j i) refl
+    where
+      go : (b : Bool) → eqb j i ≡ b → P (getD (set l i x) j c) (getD (set m i y) j d)
+      go true e = rw (eqb-true j i e, getD-set-same l i x c hl, getD-set-same m i y d hm) p
+      go false e =
+          let ne = eqb-false j i e in
+          rw (getD-set-other l i j x c ne, getD-set-other m i j y d ne) (h j)

@@ -1,7 +1,7 @@
 -- Sums over a list: of a part, and after a change at one place.
 use mathlib.Core.Path.{_≡_, refl}
 use mathlib.Core.List.{List, [], _∷_, _++_, map}
-use Prim.Native.Nat.{ℕ, zero, suc, _+_, _<_}
+use Prim.Native.Nat.{ℕ, zero, suc, _+_, _≤_, _<_}
 use native.Mathlib.Numerals.{add-one}
 use native.Mathlib.Omega.{arith}
 use lib.ListN.{length, getD, take, drop, set, replicate, take-append-drop}
@@ -38,3 +38,9 @@ module _ {X : Type 0} (f : X → ℕ) where
   unfolding sum
   sum-zeros zero x e = refl
   sum-zeros (suc n) x e = omega (arith, sum-zeros n x e)
+
+-- term by term at most
+pub sum-within : {X : Type 0} (f g : X → ℕ) → ((x : X) → f x ≤ g x) → (l : List X) → sum (map f l) ≤ sum (map g l)
+unfolding sum
+sum-within f g h [] = omega arith
+sum-within f g h (x ∷ l) = omega (arith, h x, sum-within f g h l)

@@ -14,3 +14,10 @@ between low high n = leb low n && leb n high
 unfoldable pub oneOf : List ℕ → ℕ → Bool
 oneOf [] n = false
 oneOf (m ∷ ms) n = eqb n m || oneOf ms n
+
+-- two lists are equal
+unfoldable pub isSame : List ℕ → List ℕ → Bool
+isSame [] [] = true
+isSame [] (n ∷ ns) = false
+isSame (m ∷ ms) [] = false
+isSame (m ∷ ms) (n ∷ ns) = eqb m n && isSame ms ns

@@ -98,7 +98,7 @@ module _ (t r : Texts) (x : ℕ) (s : List ℕ) (settled : Settled t r) (cells-l
   accepted room =
       let within : lengths (changed .marks) ≤ textRoom = omega (arith, changed-lengths) in
       rw (le-ltb textRoom (total (defined (viewTexts t) x s)) (omega (arith, new-total)))
-      (record { verdict = refl; table = changed-view within; clean = changed-clean within; kept = tt })
+      (record { verdict = refl; table = changed-view within; clean = changed-clean within; kept = within })
 
 -- the numbers as the code has them
 pub record Sizes (t r : Texts) (x : ℕ) (s : List ℕ) (old mark len last start : ℕ) : Type 0 where

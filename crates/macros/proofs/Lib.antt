@@ -5,3 +5,4 @@ pub mod Copying
 pub mod Defining
 pub mod Judging
 pub mod Determined
+pub mod Totals

@@ -82,10 +82,16 @@ packed cells start end last s =
     take start cells ++ s ++ take (last - end) (drop end cells)
     ++ replicate (textRoom - (start + length s + (last - end))) 0
 
--- a refusal leaves the very table
+-- after a DEFINE that was accepted the texts are within the cells; a refusal leaves the very table
 abbrev pub Kept : Verdict → Texts → Texts → Type 0
-Kept Accepted t r = Unit
+Kept Accepted t r = lengths (r .marks) ≤ textRoom
 Kept (Refused reason) t r = r ≡ t
+
+-- another table in the place of one, its texts within the cells
+pub record Changed (table : Table) (t r : Texts) : Type 0 where
+  pub room : lengths (r .marks) ≤ textRoom
+  pub view : viewTexts r ≡ table
+  pub clean : CleanTexts t → CleanTexts r
 
 -- what a DEFINE of X as s answers where it is judged so
 pub record Met (v : Verdict) (t : Texts) (x : ℕ) (s : List ℕ) (r : Defined) : Type 0 where

@@ -49,9 +49,21 @@ entryFor x s = pick (isItself x s) plain (text s)
 unfoldable pub defined : Table → ℕ → List ℕ → Table
 defined t x s = set t x (entryFor x s)
 
+-- X stands for itself again
+unfoldable pub freed : Table → ℕ → Table
+freed t x = set t x plain
+
 -- with a string of the right length
 abbrev pub judgedTotal : Table → ℕ → List ℕ → Verdict
 judgedTotal t x s = pick (ltb textRoom (total (defined t x s))) (Refused TooLong) Accepted
+
+-- the longest text that a count of one byte can announce
+abbrev pub longestText : ℕ
+longestText = 255
+
+-- with a string of any length
+abbrev pub judgedAny : Table → ℕ → List ℕ → Verdict
+judgedAny t x s = pick (ltb longestText (length s)) (Refused TooLong) (judgedTotal t x s)
 
 -- with a count and a string behind X
 abbrev pub judgedText : Table → ℕ → ℕ → List ℕ → Verdict

@@ -5,7 +5,7 @@ ghost use Prim.Native.Nat.{_+_, _-_, _≤_};
 ghost use lib.ListN.{length, take, drop, replicate};
 ghost use lib.Seq.{paste};
 ghost use Rattle.lists.specs.Buffers.{RoomFor, Wrote};
-ghost use Rattle.macros.specs.Texts.{noMacros, entryOf, judgedTotal, judged, reasonNumber, verdictBytes};
+ghost use Rattle.macros.specs.Texts.{noMacros, entryOf, total, freed, judgedTotal, judgedAny, judged, reasonNumber, verdictBytes};
 ghost use Rattle.macros.specs.Packed.{
   lengthOf,
   lengths,
@@ -16,6 +16,7 @@ ghost use Rattle.macros.specs.Packed.{
   isText,
   CleanTexts,
   Settled,
+  Changed,
   CopyOf,
   Met,
 };
@@ -28,12 +29,12 @@ use codes::REFUSE;
 const BYTES: usize = 256;
 
 // The longest text, as a DEFINE's count is one byte, and its mark.
-const LONGEST: usize = 255;
+pub const LONGEST: usize = 255;
 
 const LONGEST_MARK: u16 = 256;
 
 // The room for all texts.
-const ROOM: usize = 1024;
+pub const ROOM: usize = 1024;
 
 // RFC 735's reasons of a REFUSE.
 pub enum Reason {
@@ -114,6 +115,18 @@ fn settled(t: Texts) -> Texts
         return empty();
     }
     t
+}
+
+// How long all texts are together.
+pub fn total_of(t: Texts) -> usize
+    ensures { λ r. ⌜ r ≡ total (viewTexts t) ⌝ }
+{
+    let marks = t.marks;
+    let end = start_of(marks, BYTES);
+    if end > ROOM {
+        return 0;
+    }
+    end
 }
 
 // An ordinary byte: one look at its mark, without the table by value. True only of a byte that is not defined.
@@ -226,6 +239,28 @@ fn define_text(t: Texts, x: u8, text: &[u8]) -> Defined
         verdict: Verdict::Accepted,
         table: Texts { marks, cells },
     }
+}
+
+// A text of any length.
+pub fn define_any(t: Texts, x: u8, text: &[u8]) -> Defined
+    ensures { λ r. ⌜ Met (judgedAny (viewTexts t) x (now (text .entry))) t x (now (text .entry)) r ⌝ }
+{
+    if text.len() > LONGEST {
+        return Defined {
+            verdict: Verdict::Refused(Reason::TooLong),
+            table: t,
+        };
+    }
+    define_text(t, x, text)
+}
+
+// The byte stands for itself again, and its text is gone from the cells.
+pub fn free(t: Texts, x: u8) -> Texts
+    ensures { λ r. ⌜ Changed (freed (viewTexts t) x) t r ⌝ }
+{
+    let itself = [x];
+    let defined = define_text(t, x, &itself);
+    defined.table
 }
 
 // rest is what follows X in the body: a count, then the string.

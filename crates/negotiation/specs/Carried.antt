@@ -4,14 +4,17 @@ use mathlib.Core.List.{List, [], _∷_}
 use Prim.Native.Nat.{ℕ, _%_}
 use lib.Dec.{ltb, eqb}
 use Rattle.lists.specs.Choice.{pick}
-use Rattle.codes.specs.Answers.{Guard, when}
+use Rattle.codes.specs.Answers.{Guard, when, guarded}
+use Rattle.codes.specs.declared.Code.{Code}
 use Rattle.codes.specs.declared.Code.the-variants.{NotCarried, AlreadySo, EchoAgainstRcte}
-use Rattle.codes.specs.Telnet.{ECHO, SGA, RCTE, NAOCRD, BM, otherSide}
+use Rattle.codes.specs.Telnet.{ECHO, SGA, RCTE, NAOCRD, BM, otherSide, whoseOf, enables}
 use Rattle.wire.specs.Frames.{negotiation}
 use Rattle.codes.specs.declared.Verb.{Verb}
 use Rattle.codes.specs.declared.Verb.the-variants.{Will, Wont, Do, Dont}
 use Rattle.codes.specs.declared.Whose.{Whose}
 use Rattle.codes.specs.declared.Whose.the-variants.{His, Ours}
+use Rattle.negotiation.specs.declared.End.{End}
+use Rattle.negotiation.specs.declared.End.the-variants.{Printer, Bulletin}
 use Rattle.negotiation.specs.declared.Standing.{Standing}
 use Rattle.negotiation.specs.declared.Standing.the-variants.{No}
 use Rattle.negotiation.specs.declared.Reply.{Reply}
@@ -22,7 +25,9 @@ use Rattle.negotiation.specs.declared.Sides.{Sides}
 use Rattle.negotiation.specs.declared.Heard.{Heard}
 use Rattle.negotiation.specs.declared.Asked.{Asked}
 use Rattle.negotiation.specs.declared.Asked.the-variants.{Already, Moves}
-use Rattle.negotiation.specs.Table.{isNo, heard, asked, isAlready}
+use Rattle.negotiation.specs.declared.Asking.{Asking}
+use Rattle.negotiation.specs.declared.Turn.{Turn}
+use Rattle.negotiation.specs.Table.{to, isNo, isYes, stillOn, heard, asked, isAlready}
 
 -- what the printer end carries: four options on his side, two on ours
 unfoldable pub printerSide : Whose → ℕ → Side
@@ -34,8 +39,9 @@ printerSide His option =
 printerSide Ours option = pick (eqb option SGA) PrinterSga (pick (eqb option NAOCRD) Returns Uncarried)
 
 -- the bulletin end carries the mirror of this
-abbrev pub bulletinSide : Whose → ℕ → Side
-bulletinSide whose option = printerSide (otherSide whose) option
+abbrev pub carriedSide : End → Whose → ℕ → Side
+carriedSide Printer whose option = printerSide whose option
+carriedSide Bulletin whose option = printerSide (otherSide whose) option
 
 abbrev pub isCarried : Side → Bool
 isCarried Echo = true
@@ -98,34 +104,32 @@ abbrev pub declined : Bool → Reply
 declined true = Negative
 declined false = Silent
 
--- the ways of an ask: 0 and 1 disable and enable his side, 2 and 3 ours; another names no side
-unfoldable pub askedSide : (Whose → ℕ → Side) → ℕ → ℕ → Side
-askedSide carried option way = pick (ltb 3 way) Uncarried (carried (pick (ltb way 2) His Ours) option)
+-- in force means YES; of BM at the printer end also that it is asked to end
+abbrev pub macrosInForce : End → Sides → Bool
+macrosInForce Printer s = stillOn (s .bm)
+macrosInForce Bulletin s = isYes (s .bm)
 
+-- what a negotiation received comes to: a carried side follows the table; of an uncarried option a request is declined
+abbrev pub turned : Whose → Side → Heard → Turn
+turned whose side h = record { side = side; next = h .next; whose = whose; reply = h .reply }
+
+abbrev pub heardOf : Sides → Whose → Side → Bool → Turn
+heardOf s whose side enable =
+    pick (isCarried side) (turned whose side (heard enable (free s side) (standing s side)))
+    (turned whose side (to No (declined enable)))
+
+unfoldable pub heardBy : End → Sides → Verb → ℕ → Turn
+heardBy end s v option = heardOf s (whoseOf v) (carriedSide end (whoseOf v) option) (enables v)
+
+-- the ways of an ask: 0 and 1 disable and enable his side, 2 and 3 ours; another names no side
 abbrev pub askedWhose : ℕ → Whose
 askedWhose way = pick (ltb way 2) His Ours
 
+unfoldable pub askedSide : End → ℕ → ℕ → Side
+askedSide end option way = pick (ltb 3 way) Uncarried (carriedSide end (askedWhose way) option)
+
 abbrev pub askedEnable : ℕ → Bool
 askedEnable way = eqb (way % 2) 1
-
--- A negotiation and an ask lead to D, the end's own answer: moves is what the end does as a side's standing changes, with
--- the bytes that go out first, and sends what it does where only bytes go out.
-module _ {D : Type 0} (sides : Sides) (whose : Whose) (option : ℕ) (side : Side) (enable : Bool) (moves : Standing → List ℕ → D) where
-  abbrev pub heardTo : Heard → D
-  heardTo h = moves (h .next) (replyBytes whose (h .reply) option)
-
-  -- a carried side follows the table; of an uncarried option a request is declined
-  unfoldable pub heardBy : (List ℕ → D) → D
-  heardBy sends =
-      pick (isCarried side) (heardTo (heard enable (free sides side) (standing sides side)))
-      (sends (replyBytes whose (declined enable) option))
-
-  abbrev pub askedTo : D → Asked → D
-  askedTo nothing Already = nothing
-  askedTo nothing (Moves q r) = moves q (replyBytes whose r option)
-
-  unfoldable pub askedBy : D → D
-  askedBy nothing = askedTo nothing (asked enable (standing sides side))
 
 -- the refusals of an ask behind code 1
 abbrev pub askGuards : Sides → Side → Bool → List Guard
@@ -134,3 +138,16 @@ askGuards sides side enable =
     ∷ when (clashes sides side enable) EchoAgainstRcte
     ∷ when (isAlready (asked enable (standing sides side))) AlreadySo
     ∷ []
+
+-- what an ask comes to
+abbrev pub asMoves : Asked → Asking
+asMoves Already = Asking.Refused AlreadySo
+asMoves (Moves q r) = Asking.Moves q r
+
+unfoldable pub askingOf : Sides → Side → Bool → Asking
+askingOf sides side enable = guarded (askGuards sides side enable) Asking.Refused (asMoves (asked enable (standing sides side)))
+
+-- .. by what an end does with a refusal and with a side that moves
+abbrev pub askedBy : {A : Type 0} → (Code → A) → (Standing → Reply → A) → Asking → A
+askedBy refused moves (Asking.Refused c) = refused c
+askedBy refused moves (Asking.Moves q r) = moves q r

@@ -1,10 +1,18 @@
-// What an ask names, and replies and requests as they are written.
+// What an ask and a negotiation received come to, and replies and requests as they are written.
 ghost use mathlib.Core.Path.{_≡_};
 ghost use Rattle.lists.specs.Buffers.{RoomFor, Wrote};
-ghost use Rattle.negotiation.specs.Carried.{printerSide, bulletinSide, replyVerb, replyBytes, declined, askedSide, askedWhose, askedEnable};
+ghost use Rattle.negotiation.specs.Carried.{replyVerb, replyBytes, declined, askedSide, askedWhose, askedEnable, askingOf, heardBy};
+use crate::Asked;
+use crate::Asking;
+use crate::End;
 use crate::Reply;
 use crate::Side;
+use crate::Sides;
+use crate::Standing;
+use crate::Turn;
 use crate::carried;
+use crate::table;
+use codes::Code;
 use codes::Verb;
 use codes::Whose;
 
@@ -22,32 +30,68 @@ pub fn asked_enable(way: u8) -> bool
 }
 
 // A way over 3 names no side.
-pub fn asked_side_printer(option: u8, way: u8) -> Side
-    ensures { λ r. ⌜ r ≡ askedSide printerSide option way ⌝ }
+pub fn asked_side(end: End, option: u8, way: u8) -> Side
+    ensures { λ r. ⌜ r ≡ askedSide end option way ⌝ }
 {
     if way > 3 {
         return Side::Uncarried;
     }
-    carried::printer_side(asked_whose(way), option)
+    carried::carried_side(end, asked_whose(way), option)
 }
 
-pub fn asked_side_bulletin(option: u8, way: u8) -> Side
-    ensures { λ r. ⌜ r ≡ askedSide bulletinSide option way ⌝ }
+// What an ask about a side comes to, its refusals in their order.
+pub fn asking_of(sides: Sides, side: Side, enable: bool) -> Asking
+    ensures { λ r. ⌜ r ≡ askingOf sides side enable ⌝ }
 {
-    if way > 3 {
-        return Side::Uncarried;
+    if !carried::is_carried(side) {
+        return Asking::Refused(Code::NotCarried);
     }
-    carried::bulletin_side(asked_whose(way), option)
+    if carried::clashes(sides, side, enable) {
+        return Asking::Refused(Code::EchoAgainstRcte);
+    }
+    let asked = table::ask(enable, carried::standing_of(sides, side));
+    match asked {
+        Asked::Already => Asking::Refused(Code::AlreadySo),
+        Asked::Moves(q, reply) => Asking::Moves(q, reply),
+    }
 }
 
 // The answer to a negotiation of an uncarried option: a request is declined, a withdrawal gets nothing.
-pub fn declined(enable: bool) -> Reply
+fn declined(enable: bool) -> Reply
     ensures { λ r. ⌜ r ≡ declined enable ⌝ }
 {
     if enable {
         return Reply::Negative;
     }
     Reply::Silent
+}
+
+// WILL, WONT, DO or DONT of an option, received by an end.
+pub fn heard_by(end: End, sides: Sides, v: Verb, option: u8) -> Turn
+    ensures { λ r. ⌜ r ≡ heardBy end sides v option ⌝ }
+{
+    let whose = codes::whose_of(v);
+    let enable = codes::enables(v);
+    let side = carried::carried_side(end, whose, option);
+    if carried::is_carried(side) {
+        let agreed = carried::free(sides, side);
+        let h = table::hear(enable, agreed, carried::standing_of(sides, side));
+        let next = h.next;
+        let reply = h.reply;
+        return Turn {
+            side,
+            next,
+            whose,
+            reply,
+        };
+    }
+    let reply = declined(enable);
+    Turn {
+        side,
+        next: Standing::No,
+        whose,
+        reply,
+    }
 }
 
 // The verb of a reply or a request about that side.

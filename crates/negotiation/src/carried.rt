@@ -1,6 +1,8 @@
 // The sides that each end carries, their states, and ECHO against RCTE.
 ghost use mathlib.Core.Path.{_≡_};
-ghost use Rattle.negotiation.specs.Carried.{printerSide, bulletinSide, isCarried, standing, moved, allNo, free, clashes};
+ghost use Rattle.negotiation.specs.Table.{isYes};
+ghost use Rattle.negotiation.specs.Carried.{printerSide, carriedSide, isCarried, standing, moved, allNo, free, clashes, macrosInForce};
+use crate::End;
 use crate::Side;
 use crate::Sides;
 use crate::Standing;
@@ -13,7 +15,7 @@ use codes::SGA;
 use codes::Whose;
 
 // What the printer end carries: four options on his side, two on ours.
-pub fn printer_side(w: Whose, option: u8) -> Side
+fn printer_side(w: Whose, option: u8) -> Side
     ensures { λ r. ⌜ r ≡ printerSide w option ⌝ }
 {
     match w {
@@ -33,10 +35,13 @@ pub fn printer_side(w: Whose, option: u8) -> Side
 }
 
 // The bulletin end carries the mirror of this.
-pub fn bulletin_side(w: Whose, option: u8) -> Side
-    ensures { λ r. ⌜ r ≡ bulletinSide w option ⌝ }
+pub fn carried_side(end: End, w: Whose, option: u8) -> Side
+    ensures { λ r. ⌜ r ≡ carriedSide end w option ⌝ }
 {
-    printer_side(codes::other_side(w), option)
+    match end {
+        End::Printer => printer_side(w, option),
+        End::Bulletin => printer_side(codes::other_side(w), option),
+    }
 }
 
 pub fn is_carried(side: Side) -> bool
@@ -136,6 +141,39 @@ pub fn free(s: Sides, side: Side) -> bool
         Side::PrinterSga => true,
         Side::Returns => true,
         Side::Uncarried => false,
+    }
+}
+
+// In force means YES.
+pub fn echo_in_force(s: Sides) -> bool
+    ensures { λ r. ⌜ r ≡ isYes (s .echo) ⌝ }
+{
+    let standing = s.echo;
+    table::is_yes(standing)
+}
+
+pub fn rcte_in_force(s: Sides) -> bool
+    ensures { λ r. ⌜ r ≡ isYes (s .rcte) ⌝ }
+{
+    let standing = s.rcte;
+    table::is_yes(standing)
+}
+
+pub fn returns_in_force(s: Sides) -> bool
+    ensures { λ r. ⌜ r ≡ isYes (s .naocrd) ⌝ }
+{
+    let standing = s.naocrd;
+    table::is_yes(standing)
+}
+
+// BM is in force at YES; at the printer end until the other end has said that it stopped.
+pub fn macros_in_force(end: End, s: Sides) -> bool
+    ensures { λ r. ⌜ r ≡ macrosInForce end s ⌝ }
+{
+    let standing = s.bm;
+    match end {
+        End::Printer => table::still_on(standing),
+        End::Bulletin => table::is_yes(standing),
     }
 }
 

@@ -1,27 +1,31 @@
 // Option negotiation by RFC 1143: six states a side, what is received and what is asked.
+use codes::Code;
+use codes::Whose;
+
 mod asks;
 mod carried;
 mod table;
 
 pub use asks::asked_enable;
-pub use asks::asked_side_bulletin;
-pub use asks::asked_side_printer;
+pub use asks::asked_side;
 pub use asks::asked_whose;
-pub use asks::declined;
+pub use asks::asking_of;
+pub use asks::heard_by;
 pub use asks::put_reply;
 pub use carried::all_no;
-pub use carried::bulletin_side;
-pub use carried::clashes;
-pub use carried::free;
-pub use carried::is_carried;
+pub use carried::echo_in_force;
+pub use carried::macros_in_force;
 pub use carried::moved;
-pub use carried::printer_side;
-pub use carried::standing_of;
-pub use table::ask;
-pub use table::hear;
-pub use table::is_no;
+pub use carried::rcte_in_force;
+pub use carried::returns_in_force;
 pub use table::is_yes;
 pub use table::still_on;
+
+// The two ends of the line.
+pub enum End {
+    Printer,
+    Bulletin,
+}
 
 // The state of one side of one option; Opposite marks a queued request.
 pub enum Standing {
@@ -50,6 +54,20 @@ pub struct Heard {
 pub enum Asked {
     Already,
     Moves(Standing, Reply),
+}
+
+// What an ask comes to: a refusal (codes 4, 11, 5), or a state and a request.
+pub enum Asking {
+    Refused(Code),
+    Moves(Standing, Reply),
+}
+
+// What a negotiation received comes to: the side that it is about, its next state, and the reply.
+pub struct Turn {
+    pub side: Side,
+    pub next: Standing,
+    pub whose: Whose,
+    pub reply: Reply,
 }
 
 // A side that is carried, named by the end that performs the option; Uncarried is any other.

@@ -10,11 +10,11 @@ use Rattle.printer.specs.State.{Did, done, refused}
 use Rattle.printer.specs.Kept.{viewPrinter, Whole, MetStep, MetAnswer, refusal, answered}
 
 -- a refusal, whatever its code
-pub met-refused : {p : code-printer.Printer} {c : Code} {held lay : List ℕ} → MetAnswer (refused (viewPrinter p) c) p held held lay lay (refusal p c)
-met-refused {p} {c} {held} {lay} = record {
+pub met-refused : {p : code-printer.Printer} {c : Code} {paper wire : List ℕ} → MetAnswer (refused (viewPrinter p) c) p paper paper wire wire (refusal p c)
+met-refused {p} {c} {paper} {wire} = record {
   code = refl;
   note = refl;
-  wrote = record { paper = wrote-none held; wire = wrote-none lay };
+  wrote = record { paper = wrote-none paper; wire = wrote-none wire };
   view = refl;
   clean = λ k. k;
   whole = λ k. k;
@@ -22,8 +22,8 @@ met-refused {p} {c} {held} {lay} = record {
 }
 
 -- a step that was done
-pub met-done : {d : Did} {p : code-printer.Printer} {held held′ lay lay′ : List ℕ} {r : Step} → MetStep d p held held′ lay lay′ r → Whole (r .state)
-    → MetAnswer (done d) p held held′ lay lay′ (answered r)
+pub met-done : {d : Did} {p : code-printer.Printer} {paperBefore paperAfter wireBefore wireAfter : List ℕ} {r : Step} → MetStep d p paperBefore paperAfter wireBefore wireAfter r → Whole (r .state)
+    → MetAnswer (done d) p paperBefore paperAfter wireBefore wireAfter (answered r)
 met-done m w = record {
   code = refl;
   note = m .note;

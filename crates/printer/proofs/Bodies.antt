@@ -1,10 +1,10 @@
 -- A body's end, a readable body, and a byte, as the rules' next steps.
 use mathlib.Core.Path.{_≡_, refl, sym, ap, _∙_}
 use mathlib.Core.Bool.{Bool, true, false}
-use mathlib.Core.List.{List, [], _∷_}
+use mathlib.Core.List.{List}
 use Prim.Native.Nat.{ℕ, _≤_, _-_}
 use native.Mathlib.Omega.{arith}
-use lib.ListN.{length, take, drop, getD, length-drop}
+use lib.ListN.{length, take, drop, length-drop}
 use lib.Seq.{take-all}
 use lib.Dec.{ltb}
 use borrow.Author.Tests.{ltb-false}
@@ -14,19 +14,18 @@ use Rattle.bodies.specs.declared.MacroCommand.{MacroCommand}
 use Rattle.bodies.specs.MacroBodies.{macroBody}
 use Rattle.reader.specs.declared.Item.{Item}
 use Rattle.reader.specs.declared.Item.the-variants.{BodyEnd}
-use Rattle.reader.specs.Reading.{Reader, idle, read, byOption}
+use Rattle.reader.specs.Reading.{Reader, idle, read}
+use Rattle.negotiation.specs.declared.End.{End}
+use Rattle.subnegotiation.specs.declared.Checked.{Checked}
+use Rattle.subnegotiation.specs.Checks.{checked}
 use Rattle.printer.specs.State.{Printer, withReader}
-use Rattle.printer.specs.Network.{itemRead, byteRead, bodyRead}
+use Rattle.printer.specs.Network.{bodyHandled, bodyRead, itemRead, byteRead}
 
--- a body that is neither marred nor empty goes by its option
-pub by-first : {D : Type 0} (body : List ℕ) (u : D) (h : ℕ → D) → 1 ≤ length body → byOption false body u h ≡ h (getD body 0 0)
-unfolding byOption
-by-first [] u h le = absurd (omega arith)
-by-first (o ∷ rest) u h le = refl
-
--- the reader is empty as a body is handled
-pub body-end : (s : Printer) (r : Reader) → r ≡ idle → itemRead s BodyEnd ≡ bodyRead (withReader s r) (s .reader .marred) (s .reader .body)
-body-end s r e = ap (λ (x : Reader). bodyRead (withReader s x) (s .reader .marred) (s .reader .body)) (sym e)
+-- a body is handled as it was checked, with the reader empty
+pub body-end : (s : Printer) (r : Reader) (c : Checked) → r ≡ idle → c ≡ checked End.Printer (s .sides) (s .reader .marred) (s .reader .body)
+    → itemRead s BodyEnd ≡ bodyHandled (withReader s r) (s .reader .body) c
+unfolding bodyRead
+body-end s r c e k = rw (e, k)
 
 -- a readable body of BM has its macro byte
 pub readable-long : (body : List ℕ) (c : MacroCommand) → macroBody body ≡ MacroBody.Readable c → 3 ≤ length body

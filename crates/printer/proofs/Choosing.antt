@@ -12,10 +12,10 @@ use Rattle.codes.specs.Telnet.{IAC}
 use Rattle.reader.specs.declared.Phase.{Phase}
 use Rattle.reader.specs.declared.Phase.the-variants.{Between, AfterIac, AfterVerb, InBody, InBodyAfterIac}
 use Rattle.reader.specs.declared.Item.the-variants.{Data}
-use Rattle.reader.specs.Reading.{Read, read, readIn, gives, isBetween, isData}
-use Rattle.printer.specs.State.{Printer, printing, rcteOn, macrosOn}
+use Rattle.reader.specs.Reading.{read, readIn, gives, byteBy, isBetween, isData}
+use Rattle.printer.specs.State.{Printer, withReader, printing, rcteOn, macrosOn}
 use Rattle.printer.specs.Kept.{isOrdinary}
-use Rattle.printer.specs.Network.{dataRead, afterRead, byteRead, entryRead, networkRead}
+use Rattle.printer.specs.Network.{dataRead, itemRead, byteRead, entryRead, networkRead}
 
 both-same : {D : Type 0} (t : Bool) (x y : D) → x ≡ y → pick t x y ≡ y
 both-same true x y e = e
@@ -35,7 +35,7 @@ data-byte s b e =
     let plain = not-true (eqb b IAC) (both-left (not (eqb b IAC)) (isBetween (s .reader .phase)) e) in
     let here = between (s .reader .phase) (both-right (not (eqb b IAC)) (isBetween (s .reader .phase)) e) in
     let as-read : readIn (s .reader .phase) (s .reader) b ≡ gives (Data b) (s .reader) = rw (here, plain) in
-    ap (λ (r : Read). afterRead s r) as-read
+    ap (byteBy withReader itemRead s) as-read
 
 -- a byte that stands for itself
 pub plain-read : (s : Printer) (b : ℕ) → entryOf (s .table) b ≡ plain → networkRead s b ≡ byteRead s b

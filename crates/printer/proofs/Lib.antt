@@ -9,3 +9,5 @@ pub mod Replying
 pub mod Bodies
 pub mod Choosing
 pub mod Texts
+pub mod Invariant
+pub mod EmptyTable

@@ -15,19 +15,18 @@ use Rattle.codes.specs.Telnet.{NAOCRD, DR}
 use Rattle.codes.specs.declared.Code.{Code}
 use Rattle.codes.specs.declared.Whose.{Whose}
 use Rattle.wire.specs.Frames.{frame}
-use Rattle.negotiation.specs.declared.Asked.{Asked}
-use Rattle.negotiation.specs.declared.Asked.the-variants.{Already, Moves}
+use Rattle.keys.specs.Keys.{badCommand}
+use Rattle.negotiation.specs.declared.End.{End}
 use Rattle.negotiation.specs.declared.Side.{Side}
-use Rattle.negotiation.specs.Table.{asked, isAlready}
-use Rattle.negotiation.specs.Carried.{printerSide, standing, isCarried, clashes, replyBytes, askedSide, askedWhose, askedEnable, askedTo, askedBy}
+use Rattle.negotiation.specs.Carried.{replyBytes, askedSide, askedWhose, askedEnable}
 use Rattle.reader.specs.Reading.{isBetween}
 use Rattle.bodies.specs.ValueBodies.{isBadValue}
 use Rattle.macros.specs.Texts.{Entry, plain, text, entryOf}
 use Rattle.echo.specs.Control.{isFull, pressed}
 use Rattle.disposition.specs.Returns.{withDr}
-use Rattle.printer.specs.State.{Printer, fresh, rcteOn, echoOn, returnsOn, macrosOn, Did, nothing, Answer, done, refused}
-use Rattle.printer.specs.Network.{replied, byteRead, bytesRead, entryRead, networkRead}
-use Rattle.printer.specs.Calls.{networkCall, badKey, keyTyped, keyCall, askCall, suggestCall}
+use Rattle.printer.specs.State.{Printer, fresh, rcteOn, echoOn, returnsOn, macrosOn, Did, Answer, refused}
+use Rattle.printer.specs.Network.{byteRead, bytesRead, entryRead, networkRead}
+use Rattle.printer.specs.Calls.{networkCall, keyTyped, keyCall, askOf, askCall, suggestCall}
 use Rattle.printer.specs.Session.{Call, network, key, ask, suggest, called, answersFrom}
 use Rattle.printer.specs.Limits.{textLimit, Sized, InBytes, Limited, Fits, NetworkFits, KeyFits, MoveFits, SuggestionFits, CallFits, FreshLimited, NetworkKeeps, KeyKeeps, MoveKeeps, OfBytes, CallKeeps, Within, SessionWithin}
 use Rattle.macros.specs.Packed.{textOf}
@@ -35,6 +34,7 @@ use Rattle.echo.proofs.Spending.{presses}
 use Rattle.keys.proofs.Packing.{paper-most, wire-most}
 use Rattle.printer.proofs.LimitsReader.{credit, no-credit, credit-within}
 use Rattle.negotiation.proofs.Replies.{reply-long}
+use Rattle.negotiation.proofs.Outcomes.{asked-cases}
 use Rattle.wire.proofs.Coded.{coded-long}
 use Rattle.printer.proofs.LimitsNetwork.{with-values, with-echo, Step, moves, replies, byte-step, bytes-step}
 
@@ -113,17 +113,17 @@ module _ (s : Printer) (c : Call) where
   refuses : (code : Code) → Answered s c (refused s code)
   refuses code = record { fits = λ z. record { paper = lit≤ tt; wire = lit≤ tt }; kept = λ b h. h }
 
-  -- an ask moves the side that it is about, or none
-  asks : (whose : Whose) (option : ℕ) (side : Side) (enable : Bool) (a : Asked)
-      → Answered s c (done (askedTo (s .sides) whose option side enable (λ q reply. replied s side q reply) (nothing s) a))
-  asks whose option side enable Already = record { fits = λ z. record { paper = lit≤ tt; wire = lit≤ tt }; kept = λ b h. h }
-  asks whose option side enable (Moves q r) = record {
-    fits = move-fits s side q (replyBytes whose r option) (reply-long whose r option);
-    kept = λ b h. move-keeps s side q h;
-  }
+  -- an ask moves the side that it is about, or is refused
+  asks : (whose : Whose) (option : ℕ) (side : Side) (enable : Bool) → Answered s c (askOf s option whose side enable)
+  asks whose option side enable =
+      asked-cases (Answered s c) (s .sides) side enable _ _ refuses
+      (λ q r n e. record {
+        fits = move-fits s side q (replyBytes whose r option) (reply-long whose r option);
+        kept = λ b h. move-keeps s side q h;
+      })
 
 answers : (s : Printer) (c : Call) → Answered s c (called s c)
-unfolding called networkCall keyCall askCall suggestCall askedBy guarded
+unfolding called networkCall keyCall askCall suggestCall guarded
 answers s (network b p w) =
     let c = network b p w in
     either (Answered s c) (noRoom p w) (refuses s c _)
@@ -131,18 +131,12 @@ answers s (network b p w) =
 answers s (key k p w) =
     let c = key k p w in
     either (Answered s c) (noRoom p w) (refuses s c _)
-    (either (Answered s c) (badKey k) (refuses s c _)
+    (either (Answered s c) (badCommand k) (refuses s c _)
     (chosen (Answered s c) (rcteOn s && isFull (s .echo)) (λ e. refuses s c _)
     (λ e. record { fits = key-fits s k; kept = λ b h. key-keeps s k e h })))
 answers s (ask o y p w) =
     let c = ask o y p w in
-    let side = askedSide printerSide o y in
-    let enable = askedEnable y in
-    let a = asked enable (standing (s .sides) side) in
-    either (Answered s c) (noRoom p w) (refuses s c _)
-    (either (Answered s c) (not (isCarried side)) (refuses s c _)
-    (either (Answered s c) (clashes (s .sides) side enable) (refuses s c _)
-    (either (Answered s c) (isAlready a) (refuses s c _) (asks s c (askedWhose y) o side enable a))))
+    either (Answered s c) (noRoom p w) (refuses s c _) (asks s c (askedWhose y) o (askedSide End.Printer o y) (askedEnable y))
 answers s (suggest v p w) =
     let c = suggest v p w in
     either (Answered s c) (noRoom p w) (refuses s c _)

@@ -10,20 +10,21 @@ use lib.ListN.{length, drop, length-append}
 use lib.Seq.{getD-drop}
 use Rattle.lists.specs.Choice.{pick}
 use Rattle.lists.proofs.Lengths.{chosen, either, every-set, every-replicate}
-use Rattle.codes.specs.Telnet.{RCTE, NAOCRD, BM, ACCEPT, REFUSE, DS, whoseOf, enables}
+use Rattle.codes.specs.Telnet.{BM, ACCEPT, REFUSE, DS}
 use Rattle.codes.specs.declared.Note.{Note}
-use Rattle.codes.specs.declared.Note.the-variants.{Unreadable, Inactive, OtherOption, Stray}
+use Rattle.codes.specs.declared.Note.the-variants.{Unreadable, Stray}
 use Rattle.codes.specs.declared.Verb.{Verb}
 use Rattle.negotiation.proofs.Replies.{reply-long}
 use Rattle.wire.proofs.Coded.{coded-long, coded-one}
 use Rattle.wire.specs.Frames.{frame}
 use Rattle.lists.specs.Lists.{joined}
+use Rattle.negotiation.specs.declared.End.{End}
 use Rattle.negotiation.specs.declared.Sides.{Sides}
 use Rattle.negotiation.specs.declared.Standing.{Standing}
 use Rattle.negotiation.specs.declared.Side.{Side}
 use Rattle.negotiation.specs.declared.Side.the-variants.{Echo, BulletinSga, Rcte, Macro, PrinterSga, Returns, Uncarried}
-use Rattle.negotiation.specs.Table.{isYes, stillOn, heard}
-use Rattle.negotiation.specs.Carried.{printerSide, standing, moved, free, isCarried, declined, replyBytes, heardBy}
+use Rattle.negotiation.specs.Table.{isYes, stillOn}
+use Rattle.negotiation.specs.Carried.{moved, replyBytes, heardBy}
 use Rattle.reader.specs.declared.Item.{Item}
 use Rattle.reader.specs.declared.Item.the-variants.{Nothing, Data, Negotiated, BodyEnd, StrayCommand}
 use Rattle.reader.specs.Reading.{Reader, bodyRoom, idle, read, byOption}
@@ -42,8 +43,11 @@ use Rattle.echo.specs.Control as control
 use Rattle.echo.specs.Control.{Echoed, waitRoom, started, holding, commanded, ordersNow, ended}
 use Rattle.disposition.specs.declared.Values.{Values}
 use Rattle.disposition.specs.Returns.{unspoken, withDs}
-use Rattle.printer.specs.State.{Printer, withSides, withReader, withTable, withEcho, withValues, rcteOn, echoOn, returnsOn, macrosOn, Did, sends, nothing, notes, printing, echoing}
-use Rattle.printer.specs.Network.{dataRead, rcteMoved, sideMoved, replied, sideHeard, negotiationRead, rcteRead, macroRead, valueRead, optionRead, bodyRead, itemRead, byteRead, bytesRead}
+use Rattle.subnegotiation.specs.declared.Checked.{Checked}
+use Rattle.subnegotiation.specs.declared.Checked.the-variants.{Noted}
+use Rattle.subnegotiation.specs.Checks.{optionChecked, checked}
+use Rattle.printer.specs.State.{Printer, withSides, withReader, withTable, withEcho, withValues, rcteOn, echoOn, Did, sends, nothing, notes, printing, echoing}
+use Rattle.printer.specs.Network.{dataRead, rcteMoved, sideMoved, replied, negotiationRead, rcteRead, macroRead, valueRead, bodyHandled, bodyRead, itemRead, byteRead, bytesRead}
 use Rattle.printer.specs.Limits.{textLimit, InBytes, Limited}
 use Rattle.macros.specs.Packed.{textOf}
 use Rattle.echo.proofs.Spending.{Spends, releases, ends}
@@ -154,14 +158,10 @@ replies n s side q reply l =
     record { paper = m .paper; wire = simp length-append (omega (arith, m .wire)); kept = m .kept }
 
 negotiates : (s : Printer) (v : Verb) (option : ℕ) → Step (s .echo) (s .reader) 1 3 (Limited s) (negotiationRead s v option)
-unfolding negotiationRead sideHeard heardBy
+unfolding negotiationRead
 negotiates s v option =
-    let whose = whoseOf v in
-    let side = printerSide whose option in
-    let h = heard (enables v) (free (s .sides) side) (standing (s .sides) side) in
-    either (Step (s .echo) (s .reader) 1 3 (Limited s)) (isCarried side)
-    (replies 3 s side (h .next) (replyBytes whose (h .reply) option) (reply-long whose (h .reply) option))
-    (sending 3 s (λ y. y) (replyBytes whose (declined (enables v)) option) (reply-long whose (declined (enables v)) option))
+    let t = heardBy End.Printer (s .sides) v option in
+    replies 3 s (t .side) (t .next) (replyBytes (t .whose) (t .reply) option) (reply-long (t .whose) (t .reply) option)
 
 -- a DEFINE that is accepted has a text as long as its count says
 accepts : (t : Table) (x : ℕ) (rest : List ℕ) → InBytes rest → AllShort t → AllShort (afterDefine (judgedRest t x rest) t x (drop 1 rest))
@@ -206,23 +206,20 @@ module _ {H : Type 0} (n : ℕ) (ten : 10 ≤ n) (s : Printer) (h : H → Limite
   values ValueBody.Unreadable = noting n s h Unreadable
   values (ValueBody.Readable v) = sending n (withValues s (withDs (s .values) v)) (λ y. with-values (h y) (withDs (s .values) v)) [] (omega arith)
 
-  options : (option : ℕ) (body : List ℕ) → (H → InBytes body) → Step (s .echo) (s .reader) 1 n H (optionRead s option body)
-  unfolding optionRead
-  options option body i =
-      let Q : Did → Type 0 = Step (s .echo) (s .reader) 1 n H in
-      let inactive : Q (notes Inactive s) = noting n s h Inactive in
-      either Q (eqb option RCTE) (either Q (rcteOn s) (rctes (rcteBody body)) inactive)
-      (either Q (eqb option NAOCRD) (either Q (returnsOn s) (values (valueBody DS body)) inactive)
-      (either Q (eqb option BM) (either Q (macrosOn s) (macros body (macroBody body) i) inactive)
-      (noting n s h OtherOption)))
+  handles : (body : List ℕ) (c : Checked) → (H → InBytes body) → Step (s .echo) (s .reader) 1 n H (bodyHandled s body c)
+  handles body (Noted note) i = noting n s h note
+  handles body Checked.Rcte i = rctes (rcteBody body)
+  handles body Checked.Returns i = values (valueBody DS body)
+  handles body Checked.Macro i = macros body (macroBody body) i
 
 -- a body that is not empty has credit for its reply
 bodies : {H : Type 0} (s : Printer) → (H → Limited s) → (marred : Bool) (body : List ℕ) → (H → InBytes body)
     → Step (s .echo) (s .reader) 1 (8 + 2 * length body) H (bodyRead s marred body)
-unfolding bodyRead byOption
+unfolding bodyRead checked byOption
 bodies s h true body i = noting (8 + 2 * length body) s h Unreadable
 bodies s h false [] i = noting 8 s h Unreadable
-bodies s h false (option ∷ rest) i = options (8 + 2 * suc (length rest)) (omega arith) s h option (option ∷ rest) i
+bodies s h false (option ∷ rest) i =
+    handles (8 + 2 * suc (length rest)) (omega arith) s h (option ∷ rest) (optionChecked End.Printer (s .sides) option) i
 
 items : (s : Printer) (i : Item) → Step (s .echo) (s .reader) 1 (pays i (s .reader .body)) (Limited s) (itemRead s i)
 items s Nothing = sending 0 s (λ h. h) [] (lit≤ tt)

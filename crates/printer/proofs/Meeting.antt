@@ -18,19 +18,19 @@ quietStep n p = record { note = n; paper = 0; wire = 0; state = p }
 pub met-quietly : (n : Note) (p t : code-printer.Printer) (s : Printer) → viewPrinter t ≡ s → (CleanPrinter p → CleanPrinter t)
     → MetQuietly (notes n s) p (quietStep n t)
 met-quietly n p t s v k = record {
-  met = λ held lay. record {
+  met = λ paper wire. record {
     note = refl;
-    wrote = record { paper = wrote-none held; wire = wrote-none lay };
+    wrote = record { paper = wrote-none paper; wire = wrote-none wire };
     view = v;
     clean = k;
   };
 }
 
 -- a step that only changes the state
-pub met-still : (p t : code-printer.Printer) (s : Printer) → MetQuiet (nothing s) p t → (held lay : List ℕ) → MetStep (nothing s) p held held lay lay (quietStep Clear t)
-met-still p t s m held lay = record {
+pub met-still : (p t : code-printer.Printer) (s : Printer) → MetQuiet (nothing s) p t → (paper wire : List ℕ) → MetStep (nothing s) p paper paper wire wire (quietStep Clear t)
+met-still p t s m paper wire = record {
   note = refl;
-  wrote = record { paper = wrote-none held; wire = wrote-none lay };
+  wrote = record { paper = wrote-none paper; wire = wrote-none wire };
   view = m .view;
   clean = m .clean;
 }

@@ -19,40 +19,40 @@ use Rattle.printer.specs.Kept.{viewPrinter, CleanPrinter, MetStep}
 use Rattle.printer.proofs.Steps.{text-next, text-done}
 
 -- i bytes of the text are read: what they did, and what is still to come
-pub record Going (s : code-printer.Printer) (held lay text held′ lay′ : List ℕ) (t : code-printer.Printer) (n : Note) (i p w : ℕ) : Type 0 where
+pub record Going (s : code-printer.Printer) (paperBefore wireBefore text paperAfter wireAfter : List ℕ) (t : code-printer.Printer) (n : Note) (i p w : ℕ) : Type 0 where
   pub within : i ≤ length text
   pub did : Did
   pub all : followed did (bytesRead (did .state) (drop i text)) ≡ bytesRead (viewPrinter s) text
   pub note : n ≡ did .note
-  pub paper : Wrote (did .paper) held held′ p
-  pub wire : Wrote (did .wire) lay lay′ w
+  pub paper : Wrote (did .paper) paperBefore paperAfter p
+  pub wire : Wrote (did .wire) wireBefore wireAfter w
   pub view : viewPrinter t ≡ did .state
   pub clean : CleanPrinter s → CleanPrinter t
 
-pub begun : (s : code-printer.Printer) (held lay text : List ℕ) → Going s held lay text held lay s Clear 0 0 0
-begun s held lay text = record {
+pub begun : (s : code-printer.Printer) (paperBefore wireBefore text : List ℕ) → Going s paperBefore wireBefore text paperBefore wireBefore s Clear 0 0 0
+begun s paperBefore wireBefore text = record {
   within = omega arith;
   did = nothing (viewPrinter s);
   all = refl;
   note = refl;
-  paper = wrote-none held;
-  wire = wrote-none lay;
+  paper = wrote-none paperBefore;
+  wire = wrote-none wireBefore;
   view = refl;
   clean = λ k. k;
 }
 
-module _ (s : code-printer.Printer) (held lay text : List ℕ) (paperRoom : RoomFor (bytesRead (viewPrinter s) text .paper) held) (wireRoom : RoomFor (bytesRead (viewPrinter s) text .wire) lay)
-    (held′ lay′ : List ℕ) (t : code-printer.Printer) (n : Note) (i p w : ℕ) (g : Going s held lay text held′ lay′ t n i p w) where
-  pub paper-done : RoomFor (g .did .paper) held
+module _ (s : code-printer.Printer) (paperBefore wireBefore text : List ℕ) (paperRoom : RoomFor (bytesRead (viewPrinter s) text .paper) paperBefore) (wireRoom : RoomFor (bytesRead (viewPrinter s) text .wire) wireBefore)
+    (paperAfter wireAfter : List ℕ) (t : code-printer.Printer) (n : Note) (i p w : ℕ) (g : Going s paperBefore wireBefore text paperAfter wireAfter t n i p w) where
+  pub paper-done : RoomFor (g .did .paper) paperBefore
   paper-done = omega (arith, simp length-append at (rw (← g .all) at paperRoom))
 
-  pub wire-done : RoomFor (g .did .wire) lay
+  pub wire-done : RoomFor (g .did .wire) wireBefore
   wire-done = omega (arith, simp length-append at (rw (← g .all) at wireRoom))
 
-  pub paper-within : p ≤ length held′
+  pub paper-within : p ≤ length paperAfter
   paper-within = omega (arith, counted (g .paper) paper-done, same-long (g .paper) paper-done)
 
-  pub wire-within : w ≤ length lay′
+  pub wire-within : w ≤ length wireAfter
   wire-within = omega (arith, counted (g .wire) wire-done, same-long (g .wire) wire-done)
 
   module _ (lt : i < length text) where
@@ -67,30 +67,30 @@ module _ (s : code-printer.Printer) (held lay text : List ℕ) (paperRoom : Room
     unfolding both next
     both-all = sym (text-next (g .did) text i lt) ∙ g .all
 
-    paper-both : RoomFor (both .paper) held
+    paper-both : RoomFor (both .paper) paperBefore
     paper-both = omega (arith, simp length-append at (rw (← both-all) at paperRoom))
 
-    wire-both : RoomFor (both .wire) lay
+    wire-both : RoomFor (both .wire) wireBefore
     wire-both = omega (arith, simp length-append at (rw (← both-all) at wireRoom))
 
     at-view : viewPrinter t ≡ g .did .state
     at-view = g .view
 
-    pub paper-next : RoomFor (byteRead (viewPrinter t) (getD text i 0) .paper) (take (length held′ - p) (drop p held′))
+    pub paper-next : RoomFor (byteRead (viewPrinter t) (getD text i 0) .paper) (take (length paperAfter - p) (drop p paperAfter))
     unfolding both next
-    paper-next = subst (λ (x : Printer). RoomFor (byteRead x (getD text i 0) .paper) (take (length held′ - p) (drop p held′))) (sym at-view) (part-room (g .paper) paper-done (next .paper) paper-both)
+    paper-next = subst (λ (x : Printer). RoomFor (byteRead x (getD text i 0) .paper) (take (length paperAfter - p) (drop p paperAfter))) (sym at-view) (part-room (g .paper) paper-done (next .paper) paper-both)
 
-    pub wire-next : RoomFor (byteRead (viewPrinter t) (getD text i 0) .wire) (take (length lay′ - w) (drop w lay′))
+    pub wire-next : RoomFor (byteRead (viewPrinter t) (getD text i 0) .wire) (take (length wireAfter - w) (drop w wireAfter))
     unfolding both next
-    wire-next = subst (λ (x : Printer). RoomFor (byteRead x (getD text i 0) .wire) (take (length lay′ - w) (drop w lay′))) (sym at-view) (part-room (g .wire) wire-done (next .wire) wire-both)
+    wire-next = subst (λ (x : Printer). RoomFor (byteRead x (getD text i 0) .wire) (take (length wireAfter - w) (drop w wireAfter))) (sym at-view) (part-room (g .wire) wire-done (next .wire) wire-both)
 
     module _ (lastP lastW : List ℕ) (r : Step)
-        (m : MetStep (byteRead (viewPrinter t) (getD text i 0)) t (take (length held′ - p) (drop p held′)) lastP (take (length lay′ - w) (drop w lay′)) lastW r) where
-      met-next : MetStep next t (take (length held′ - p) (drop p held′)) lastP (take (length lay′ - w) (drop w lay′)) lastW r
+        (m : MetStep (byteRead (viewPrinter t) (getD text i 0)) t (take (length paperAfter - p) (drop p paperAfter)) lastP (take (length wireAfter - w) (drop w wireAfter)) lastW r) where
+      met-next : MetStep next t (take (length paperAfter - p) (drop p paperAfter)) lastP (take (length wireAfter - w) (drop w wireAfter)) lastW r
       unfolding next
-      met-next = subst (λ (x : Printer). MetStep (byteRead x (getD text i 0)) t (take (length held′ - p) (drop p held′)) lastP (take (length lay′ - w) (drop w lay′)) lastW r) at-view m
+      met-next = subst (λ (x : Printer). MetStep (byteRead x (getD text i 0)) t (take (length paperAfter - p) (drop p paperAfter)) lastP (take (length wireAfter - w) (drop w wireAfter)) lastW r) at-view m
 
-      pub turn : Going s held lay text (putMid p (length held′ - p) held′ lastP) (putMid w (length lay′ - w) lay′ lastW) (r .state) (firstNote n (r .note)) (i + 1) (p + r .paper) (w + r .wire)
+      pub turn : Going s paperBefore wireBefore text (putMid p (length paperAfter - p) paperAfter lastP) (putMid w (length wireAfter - w) wireAfter lastW) (r .state) (firstNote n (r .note)) (i + 1) (p + r .paper) (w + r .wire)
       unfolding both
       turn = record {
         within = omega arith;
@@ -103,16 +103,16 @@ module _ (s : code-printer.Printer) (held lay text : List ℕ) (paperRoom : Room
         clean = λ k. met-next .clean (g .clean k);
       }
 
-      pub paper-counted : p + r .paper ≤ length held
+      pub paper-counted : p + r .paper ≤ length paperBefore
       unfolding turn both
       paper-counted = counted (turn .paper) paper-both
 
-      pub wire-counted : w + r .wire ≤ length lay
+      pub wire-counted : w + r .wire ≤ length wireBefore
       unfolding turn both
       wire-counted = counted (turn .wire) wire-both
 
   -- the whole text is read
-  pub ended : length text ≤ i → MetStep (bytesRead (viewPrinter s) text) s held held′ lay lay′ (record { note = n; paper = p; wire = w; state = t })
+  pub ended : length text ≤ i → MetStep (bytesRead (viewPrinter s) text) s paperBefore paperAfter wireBefore wireAfter (record { note = n; paper = p; wire = w; state = t })
   unfolding bytesRead
   ended le =
       let none : drop i text ≡ [] = drop-of-length-le text {i = i} le in

@@ -51,7 +51,7 @@ lent p w e = go (ltb p paperRoom) (ltb w wireRoom) refl refl e
     go false true f g e = absurd (false≢true (sym e))
     go false false f g e = record { paper = ltb-false p paperRoom f; wire = ltb-false w wireRoom g }
 
-pub room-for : (d : Did) (held lay : List ℕ) → noRoom (length held) (length lay) ≡ false → Fits d → RoomFor (d .paper) held × RoomFor (d .wire) lay
-room-for d held lay e f =
-    let l = lent (length held) (length lay) e in
+pub room-for : (d : Did) (paper wire : List ℕ) → noRoom (length paper) (length wire) ≡ false → Fits d → RoomFor (d .paper) paper × RoomFor (d .wire) wire
+room-for d paper wire e f =
+    let l = lent (length paper) (length wire) e in
     (omega (arith, l .paper, f .paper), omega (arith, l .wire, f .wire))

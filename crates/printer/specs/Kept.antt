@@ -22,11 +22,12 @@ use Rattle.printer.specs.declared.Step.{Step}
 use Rattle.printer.specs.declared.Answer as code-answer
 use Rattle.macros.specs.declared.Text.{Text}
 use Rattle.reader.specs.declared.Item.the-variants.{BodyEnd}
+use Rattle.negotiation.specs.declared.End.{End}
 use Rattle.negotiation.specs.declared.Side.{Side}
 use Rattle.negotiation.specs.declared.Standing.{Standing}
 use Rattle.negotiation.specs.declared.Sides.{Sides}
-use Rattle.negotiation.specs.Table.{isYes, stillOn}
-use Rattle.negotiation.specs.Carried.{moved}
+use Rattle.negotiation.specs.Table.{isYes}
+use Rattle.negotiation.specs.Carried.{moved, macrosInForce}
 use Rattle.printer.specs.State.{Printer, Did, Answer, fresh}
 use Rattle.printer.specs.Network.{itemRead}
 
@@ -46,23 +47,23 @@ pub record Whole (p : code-printer.Printer) : Type 0 where
   pub gathered : length (p .echo .gathered) ≡ gatherRoom
 
 -- the bytes that were written to the two lent buffers, from what they held to what they hold
-pub record WroteTo (d : Did) (held held′ lay lay′ : List ℕ) (n m : ℕ) : Type 0 where
-  pub paper : Wrote (d .paper) held held′ n
-  pub wire : Wrote (d .wire) lay lay′ m
+pub record WroteTo (d : Did) (paperBefore paperAfter wireBefore wireAfter : List ℕ) (n m : ℕ) : Type 0 where
+  pub paper : Wrote (d .paper) paperBefore paperAfter n
+  pub wire : Wrote (d .wire) wireBefore wireAfter m
 
 -- a step of the code does what the rule says, and leaves nothing behind in cells that are no longer used
-pub record MetStep (d : Did) (p : code-printer.Printer) (held held′ lay lay′ : List ℕ) (r : Step) : Type 0 where
+pub record MetStep (d : Did) (p : code-printer.Printer) (paperBefore paperAfter wireBefore wireAfter : List ℕ) (r : Step) : Type 0 where
   pub note : r .note ≡ d .note
-  pub wrote : WroteTo d held held′ lay lay′ (r .paper) (r .wire)
+  pub wrote : WroteTo d paperBefore paperAfter wireBefore wireAfter (r .paper) (r .wire)
   pub view : viewPrinter (r .state) ≡ d .state
   pub clean : CleanPrinter p → CleanPrinter (r .state)
 
 -- an answer of the code is the rule's: code, note, counts, every lent byte and the new state; a refusal returns the very
 -- state that it was given
-pub record MetAnswer (a : Answer) (p : code-printer.Printer) (held held′ lay lay′ : List ℕ) (r : code-answer.Answer) : Type 0 where
+pub record MetAnswer (a : Answer) (p : code-printer.Printer) (paperBefore paperAfter wireBefore wireAfter : List ℕ) (r : code-answer.Answer) : Type 0 where
   pub code : r .code ≡ a .code
   pub note : r .note ≡ a .did .note
-  pub wrote : WroteTo (a .did) held held′ lay lay′ (r .paper) (r .wire)
+  pub wrote : WroteTo (a .did) paperBefore paperAfter wireBefore wireAfter (r .paper) (r .wire)
   pub view : viewPrinter (r .state) ≡ a .did .state
   pub clean : CleanPrinter p → CleanPrinter (r .state)
   pub whole : Whole p → Whole (r .state)
@@ -90,17 +91,17 @@ pub record MetQuiet (d : Did) (p r : code-printer.Printer) : Type 0 where
 
 -- one that writes nothing, that writes only on the wire, or only on the paper
 pub record MetQuietly (d : Did) (p : code-printer.Printer) (r : Step) : Type 0 where
-  pub met : (held lay : List ℕ) → MetStep d p held held lay lay r
+  pub met : (paper wire : List ℕ) → MetStep d p paper paper wire wire r
 
-pub record MetWire (d : Did) (p : code-printer.Printer) (lay lay′ : List ℕ) (r : Step) : Type 0 where
-  pub met : (held : List ℕ) → MetStep d p held held lay lay′ r
+pub record MetWire (d : Did) (p : code-printer.Printer) (wireBefore wireAfter : List ℕ) (r : Step) : Type 0 where
+  pub met : (paper : List ℕ) → MetStep d p paper paper wireBefore wireAfter r
 
-pub record MetPaper (d : Did) (p : code-printer.Printer) (held held′ : List ℕ) (r : Step) : Type 0 where
-  pub met : (lay : List ℕ) → MetStep d p held held′ lay lay r
+pub record MetPaper (d : Did) (p : code-printer.Printer) (paperBefore paperAfter : List ℕ) (r : Step) : Type 0 where
+  pub met : (wire : List ℕ) → MetStep d p paperBefore paperAfter wire wire r
 
 -- a byte that is data, with no macro to replace it and no RCTE to hold behind it
 abbrev pub isOrdinary : Sides → Phase → ℕ → Bool
-isOrdinary sides phase b = not (stillOn (sides .bm) || isYes (sides .rcte)) && isData phase b
+isOrdinary sides phase b = not (macrosInForce End.Printer sides || isYes (sides .rcte)) && isData phase b
 
 -- the text that a copy has
 abbrev pub textIn : Text → List ℕ

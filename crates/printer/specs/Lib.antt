@@ -4,3 +4,4 @@ pub mod Calls
 pub mod Session
 pub mod Limits
 pub mod Kept
+pub mod EmptyTable

@@ -3,20 +3,18 @@ use mathlib.Core.Bool.{Bool, true, false, _&&_}
 use mathlib.Core.List.{List, [], _∷_}
 use Prim.Native.Nat.{ℕ}
 use lib.ListN.{drop}
-use lib.Dec.{eqb}
 use Rattle.lists.specs.Choice.{pick}
-use Rattle.codes.specs.Telnet.{RCTE, NAOCRD, BM, DS, whoseOf, enables}
-use Rattle.codes.specs.declared.Note.the-variants.{Unreadable, Inactive, OtherOption, Stray}
+use Rattle.codes.specs.Telnet.{DS}
+use Rattle.codes.specs.declared.Note.the-variants.{Unreadable, Stray}
 use Rattle.codes.specs.declared.Verb.{Verb}
-use Rattle.codes.specs.declared.Whose.{Whose}
+use Rattle.negotiation.specs.declared.End.{End}
 use Rattle.negotiation.specs.declared.Standing.{Standing}
 use Rattle.negotiation.specs.declared.Side.{Side}
 use Rattle.negotiation.specs.declared.Side.the-variants.{Echo, BulletinSga, Rcte, Macro, PrinterSga, Returns, Uncarried}
 use Rattle.negotiation.specs.Table.{isYes, stillOn}
-use Rattle.negotiation.specs.Carried.{printerSide, moved, heardBy}
+use Rattle.negotiation.specs.Carried.{moved, replyBytes, heardBy}
 use Rattle.reader.specs.declared.Item.{Item}
-use Rattle.reader.specs.declared.Item.the-variants.{Nothing, Data, Negotiated, BodyEnd, StrayCommand}
-use Rattle.reader.specs.Reading.{Read, idle, read, byOption, isBetween}
+use Rattle.reader.specs.Reading.{idle, read, itemBy, byteBy, isBetween}
 use Rattle.bodies.specs.declared.RcteBody.{RcteBody}
 use Rattle.bodies.specs.declared.MacroBody.{MacroBody}
 use Rattle.bodies.specs.declared.MacroCommand.the-variants.{Define, Literal}
@@ -28,7 +26,10 @@ use Rattle.macros.specs.declared.Verdict.{Verdict}
 use Rattle.macros.specs.Texts.{Entry, plain, text, noMacros, entryOf, judged, afterDefine, verdictBytes}
 use Rattle.echo.specs.Control.{started, holding, commanded, ended}
 use Rattle.disposition.specs.Returns.{unspoken, withDs}
-use Rattle.printer.specs.State.{Printer, withSides, withReader, withTable, withEcho, withValues, rcteOn, echoOn, returnsOn, macrosOn, Did, sends, nothing, notes, printing, echoing, behind, followed}
+use Rattle.subnegotiation.specs.declared.Checked.{Checked}
+use Rattle.subnegotiation.specs.declared.Checked.the-variants.{Noted}
+use Rattle.subnegotiation.specs.Checks.{checked}
+use Rattle.printer.specs.State.{Printer, withSides, withReader, withTable, withEcho, withValues, rcteOn, echoOn, macrosOn, Did, sends, nothing, notes, printing, echoing, behind, followed}
 
 -- data is printed as it is; under RCTE it then holds
 abbrev pub afterData : Printer → Printer
@@ -58,11 +59,10 @@ sideMoved s Uncarried q = nothing s
 abbrev pub replied : Printer → Side → Standing → List ℕ → Did
 replied s side q reply = behind reply (sideMoved s side q)
 
-unfoldable pub sideHeard : Printer → Whose → Bool → ℕ → Side → Did
-sideHeard s whose enable option side = heardBy (s .sides) whose option side enable (λ q reply. replied s side q reply) (λ bytes. sends bytes s)
-
 unfoldable pub negotiationRead : Printer → Verb → ℕ → Did
-negotiationRead s v option = sideHeard s (whoseOf v) (enables v) option (printerSide (whoseOf v) option)
+negotiationRead s v option =
+    let t = heardBy End.Printer (s .sides) v option in
+    replied s (t .side) (t .next) (replyBytes (t .whose) (t .reply) option)
 
 -- the bodies; each of these is reached with the option in force
 abbrev pub rcteRead : Printer → RcteBody → Did
@@ -81,31 +81,24 @@ abbrev pub valueRead : Printer → ValueBody → Did
 valueRead s ValueBody.Unreadable = notes Unreadable s
 valueRead s (ValueBody.Readable v) = nothing (withValues s (withDs (s .values) v))
 
--- of a body neither marred nor empty: first its option, then whether it is in force, then its shape
-unfoldable pub optionRead : Printer → ℕ → List ℕ → Did
-optionRead s option body =
-    pick (eqb option RCTE) (pick (rcteOn s) (rcteRead s (rcteBody body)) (notes Inactive s))
-    (pick (eqb option NAOCRD) (pick (returnsOn s) (valueRead s (valueBody DS body)) (notes Inactive s))
-    (pick (eqb option BM) (pick (macrosOn s) (macroRead s body (macroBody body)) (notes Inactive s))
-    (notes OtherOption s)))
+-- a body by its option, or the note that ends its handling
+abbrev pub bodyHandled : Printer → List ℕ → Checked → Did
+bodyHandled s body (Noted n) = notes n s
+bodyHandled s body Checked.Rcte = rcteRead s (rcteBody body)
+bodyHandled s body Checked.Returns = valueRead s (valueBody DS body)
+bodyHandled s body Checked.Macro = macroRead s body (macroBody body)
 
 unfoldable pub bodyRead : Printer → Bool → List ℕ → Did
-bodyRead s marred body = byOption marred body (notes Unreadable s) (λ option. optionRead s option body)
+bodyRead s marred body = bodyHandled s body (checked End.Printer (s .sides) marred body)
 
 -- an item handled, in the state that has the reader as the byte left it; a body leaves the reader empty
 abbrev pub itemRead : Printer → Item → Did
-itemRead s Nothing = nothing s
-itemRead s (Data b) = dataRead s b
-itemRead s (Negotiated v option) = negotiationRead s v option
-itemRead s BodyEnd = bodyRead (withReader s idle) (s .reader .marred) (s .reader .body)
-itemRead s StrayCommand = notes Stray s
-
-abbrev pub afterRead : Printer → Read → Did
-afterRead s r = itemRead (withReader s (r .reader)) (r .item)
+itemRead s i =
+    itemBy (nothing s) (dataRead s) (negotiationRead s) (bodyRead (withReader s idle) (s .reader .marred) (s .reader .body)) (notes Stray s) i
 
 -- a byte read as it stands
 unfoldable pub byteRead : Printer → ℕ → Did
-byteRead s b = afterRead s (read (s .reader) b)
+byteRead s b = byteBy withReader itemRead s (read (s .reader) b)
 
 -- the bytes of a macro's text, read like bytes that arrived, but none replaced
 unfoldable pub bytesRead : Printer → List ℕ → Did

@@ -7,9 +7,10 @@ use Rattle.codes.specs.declared.Code.{Code}
 use Rattle.codes.specs.declared.Code.the-variants.{Done}
 use Rattle.codes.specs.declared.Note.{Note}
 use Rattle.codes.specs.declared.Note.the-variants.{Clear}
+use Rattle.negotiation.specs.declared.End.{End}
 use Rattle.negotiation.specs.declared.Sides.{Sides}
-use Rattle.negotiation.specs.Table.{isYes, stillOn}
-use Rattle.negotiation.specs.Carried.{allNo}
+use Rattle.negotiation.specs.Table.{isYes}
+use Rattle.negotiation.specs.Carried.{allNo, macrosInForce}
 use Rattle.reader.specs.Reading.{Reader, idle}
 use Rattle.macros.specs.Texts.{Table, noMacros}
 use Rattle.echo.specs.Taking.{TakeUp}
@@ -52,9 +53,8 @@ echoOn s = isYes (s .sides .echo)
 abbrev pub returnsOn : Printer → Bool
 returnsOn s = isYes (s .sides .naocrd)
 
--- unlike the others, BM is in force also while it is asked to end (WANTNO)
 abbrev pub macrosOn : Printer → Bool
-macrosOn s = stillOn (s .sides .bm)
+macrosOn s = macrosInForce End.Printer (s .sides)
 
 -- what a step does: a note, paper and wire bytes, the keys that it took up and how, and the state after it
 pub record Did : Type 0 where

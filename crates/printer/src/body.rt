@@ -1,30 +1,24 @@
 // A subnegotiation's body at the printer end.
-ghost use Prim.Native.Nat.{_≤_};
-ghost use lib.ListN.{length, getD};
 ghost use Rattle.lists.specs.Buffers.{RoomFor};
 ghost use Rattle.bodies.specs.RcteBodies.{rcteBody};
 ghost use Rattle.bodies.specs.MacroBodies.{macroBody};
 ghost use Rattle.bodies.specs.ValueBodies.{valueBody};
 ghost use Rattle.codes.specs.Telnet.{DS};
 ghost use Rattle.macros.specs.Texts.{judged, verdictBytes};
-ghost use Rattle.printer.specs.Network.{rcteRead, valueRead, defineRead, macroRead, optionRead, bodyRead};
-ghost use Rattle.reader.specs.Kept.{viewReader};
+ghost use Rattle.printer.specs.Network.{rcteRead, valueRead, defineRead, macroRead, bodyHandled};
 ghost use Rattle.printer.specs.Kept.{viewPrinter, bodyEndRead, MetStep, MetQuietly, MetWire};
 use crate::Printer;
 use crate::Step;
 use crate::moves;
 use crate::network;
-use crate::on;
 use bodies::MacroBody;
 use bodies::MacroCommand;
 use bodies::RcteBody;
 use bodies::ValueBody;
-use codes::BM;
 use codes::DS;
-use codes::NAOCRD;
 use codes::Note;
-use codes::RCTE;
-use reader::Reader;
+use negotiation::End;
+use subnegotiation::Checked;
 
 // An RCTE command, with RCTE in force.
 fn rcte_read(s: Printer, body: &[u8], paper: &mut [u8], wire: &mut [u8]) -> Step
@@ -97,53 +91,18 @@ fn macro_read(s: Printer, body: &[u8], paper: &mut [u8], wire: &mut [u8]) -> Ste
     }
 }
 
-// The checks behind the first: another option, not in force, shape.
-fn option_read(s: Printer, body: &[u8], paper: &mut [u8], wire: &mut [u8]) -> Step
-    requires { ⌜ 1 ≤ length (now body) ⌝ }
-    requires { ⌜ RoomFor (optionRead (viewPrinter s) (getD (now body) 0 0) (now body) .paper) (now paper) ⌝ }
-    requires { ⌜ RoomFor (optionRead (viewPrinter s) (getD (now body) 0 0) (now body) .wire) (now wire) ⌝ }
-    ensures { λ r. ⌜ MetStep (optionRead (viewPrinter s) (getD (now (body .entry)) 0 0) (now (body .entry))) s (now (paper .entry)) (now (paper .exit)) (now (wire .entry)) (now (wire .exit)) r ⌝ }
+// A body by its option, or the note that ends its handling.
+fn handled(s: Printer, body: &[u8], checked: Checked, paper: &mut [u8], wire: &mut [u8]) -> Step
+    requires { ⌜ RoomFor (bodyHandled (viewPrinter s) (now body) checked .paper) (now paper) ⌝ }
+    requires { ⌜ RoomFor (bodyHandled (viewPrinter s) (now body) checked .wire) (now wire) ⌝ }
+    ensures { λ r. ⌜ MetStep (bodyHandled (viewPrinter s) (now (body .entry)) checked) s (now (paper .entry)) (now (paper .exit)) (now (wire .entry)) (now (wire .exit)) r ⌝ }
 {
-    let sides = s.sides;
-    let option = body[0];
-    match option {
-        RCTE => {
-            if on::rcte(sides) {
-                return rcte_read(s, body, paper, wire);
-            }
-            moves::quiet(s, Note::Inactive)
-        }
-        NAOCRD => {
-            if on::returns(sides) {
-                return value_read(s, body);
-            }
-            moves::quiet(s, Note::Inactive)
-        }
-        BM => {
-            if on::macros(sides) {
-                return macro_read(s, body, paper, wire);
-            }
-            moves::quiet(s, Note::Inactive)
-        }
-        _ => moves::quiet(s, Note::OtherOption),
+    match checked {
+        Checked::Noted(note) => moves::quiet(s, note),
+        Checked::Rcte => rcte_read(s, body, paper, wire),
+        Checked::Returns => value_read(s, body),
+        Checked::Macro => macro_read(s, body, paper, wire),
     }
-}
-
-// The first check: a body that is marred or empty is unreadable.
-fn kept_read(s: Printer, kept: Reader, paper: &mut [u8], wire: &mut [u8]) -> Step
-    requires { ⌜ RoomFor (bodyRead (viewPrinter s) (viewReader kept .marred) (viewReader kept .body) .paper) (now paper) ⌝ }
-    requires { ⌜ RoomFor (bodyRead (viewPrinter s) (viewReader kept .marred) (viewReader kept .body) .wire) (now wire) ⌝ }
-    ensures { λ r. ⌜ MetStep (bodyRead (viewPrinter s) (viewReader kept .marred) (viewReader kept .body)) s (now (paper .entry)) (now (paper .exit)) (now (wire .entry)) (now (wire .exit)) r ⌝ }
-{
-    if kept.marred {
-        return moves::quiet(s, Note::Unreadable);
-    }
-    let body = kept.body;
-    let n = reader::body_len(kept.len);
-    if n == 0 {
-        return moves::quiet(s, Note::Unreadable);
-    }
-    option_read(s, &body[..n], paper, wire)
 }
 
 // The body that the reader kept; the reader is empty after it.
@@ -153,8 +112,12 @@ pub fn body_read(s: Printer, paper: &mut [u8], wire: &mut [u8]) -> Step
     ensures { λ r. ⌜ MetStep (bodyEndRead (viewPrinter s)) s (now (paper .entry)) (now (paper .exit)) (now (wire .entry)) (now (wire .exit)) r ⌝ }
 {
     let kept = s.reader;
+    let sides = s.sides;
+    let checked = subnegotiation::body_checked(End::Printer, sides, kept);
     let empty = reader::idle();
     let mut t = s;
     t.reader = empty;
-    kept_read(t, kept, paper, wire)
+    let body = kept.body;
+    let n = reader::body_len(kept.len);
+    handled(t, &body[..n], checked, paper, wire)
 }

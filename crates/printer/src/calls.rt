@@ -4,7 +4,7 @@ ghost use mathlib.Core.Bool.{false, _&&_};
 ghost use lib.ListN.{length};
 ghost use Rattle.echo.specs.Control.{isFull};
 ghost use Rattle.printer.specs.State.{rcteOn};
-ghost use Rattle.printer.specs.Calls.{networkCall, keyCall, keyTyped, badKey, askCall, suggestCall, returnsReport};
+ghost use Rattle.printer.specs.Calls.{networkCall, keyCall, keyTyped, askCall, suggestCall, returnsReport};
 ghost use Rattle.lists.specs.Buffers.{RoomFor};
 ghost use Rattle.printer.specs.Kept.{Whole, viewPrinter, MetAnswer, MetStep, MetFresh, refusal, answered};
 use crate::Answer;
@@ -12,14 +12,13 @@ use crate::Printer;
 use crate::Step;
 use crate::moves;
 use crate::network;
-use crate::on;
 use codes::Code;
 use codes::DR;
 use codes::Note;
 use disposition::Handling;
-use disposition::UNSPOKEN_DS;
 use keys::Key;
-use negotiation::Asked;
+use negotiation::Asking;
+use negotiation::End;
 
 pub fn fresh() -> Printer
     ensures { λ r. ⌜ MetFresh r ⌝ }
@@ -88,23 +87,12 @@ pub fn network_byte(s: Printer, b: u8, paper: &mut [u8], wire: &mut [u8]) -> Ans
     done(step)
 }
 
-// A Command outside 241 to 249.
-fn bad_key(k: Key) -> bool
-    ensures { λ r. ⌜ r ≡ badKey k ⌝ }
-{
-    match k {
-        Key::Char(_) => false,
-        Key::Line => false,
-        Key::Command(c) => !codes::plain_command(c),
-    }
-}
-
 // RCTE holds keys back, and as many wait as can.
 fn queue_full(s: Printer) -> bool
     ensures { λ r. ⌜ r ≡ (rcteOn (viewPrinter s) && isFull (viewPrinter s .echo)) ⌝ }
 {
     let sides = s.sides;
-    if on::rcte(sides) {
+    if negotiation::rcte_in_force(sides) {
         let control = s.echo;
         return echo::is_full(control);
     }
@@ -120,7 +108,7 @@ fn key_typed(s: Printer, k: Key, paper: &mut [u8], wire: &mut [u8]) -> Step
 {
     let sides = s.sides;
     let control = s.echo;
-    if on::rcte(sides) {
+    if negotiation::rcte_in_force(sides) {
         let e = echo::pressed(control, k, paper, wire);
         let after = e.echo;
         let mut t = s;
@@ -132,7 +120,7 @@ fn key_typed(s: Printer, k: Key, paper: &mut [u8], wire: &mut [u8]) -> Step
             state: t,
         };
     }
-    let echoed = on::echo(sides);
+    let echoed = negotiation::echo_in_force(sides);
     let sent = echo::send_key(k, echoed, paper, wire);
     Step {
         note: Note::Clear,
@@ -148,7 +136,7 @@ pub fn press(s: Printer, k: Key, paper: &mut [u8], wire: &mut [u8]) -> Answer
     if codes::no_room(paper.len(), wire.len()) {
         return refused(s, Code::NoRoom);
     }
-    if bad_key(k) {
+    if keys::bad_command(k) {
         return refused(s, Code::BadCommand);
     }
     if queue_full(s) {
@@ -165,23 +153,18 @@ pub fn ask(s: Printer, option: u8, way: u8, paper: &mut [u8], wire: &mut [u8]) -
     if codes::no_room(paper.len(), wire.len()) {
         return refused(s, Code::NoRoom);
     }
-    let side = negotiation::asked_side_printer(option, way);
-    if !negotiation::is_carried(side) {
-        return refused(s, Code::NotCarried);
-    }
+    let side = negotiation::asked_side(End::Printer, option, way);
     let enable = negotiation::asked_enable(way);
     let sides = s.sides;
-    if negotiation::clashes(sides, side, enable) {
-        return refused(s, Code::EchoAgainstRcte);
+    let asking = negotiation::asking_of(sides, side, enable);
+    match asking {
+        Asking::Refused(code) => refused(s, code),
+        Asking::Moves(q, reply) => {
+            let whose = negotiation::asked_whose(way);
+            let step = moves::replied(s, side, q, whose, reply, option, paper, wire);
+            done(step)
+        }
     }
-    let old = negotiation::standing_of(sides, side);
-    let asked = negotiation::ask(enable, old);
-    let Asked::Moves(q, reply) = asked else {
-        return refused(s, Code::AlreadySo);
-    };
-    let whose = negotiation::asked_whose(way);
-    let step = moves::replied(s, side, q, whose, reply, option, paper, wire);
-    done(step)
 }
 
 // This end's value about carriage returns, DR.
@@ -192,15 +175,10 @@ pub fn suggest(s: Printer, v: u8, paper: &mut [u8], wire: &mut [u8]) -> Answer
         return refused(s, Code::NoRoom);
     }
     let sides = s.sides;
-    if !on::returns(sides) {
-        return refused(s, Code::NotInForce);
-    }
-    if bodies::bad_value(v) {
-        return refused(s, Code::BadValue);
-    }
     let old = s.values;
-    if v == old.dr {
-        return refused(s, Code::AlreadySo);
+    let code = disposition::suggest_refusal(negotiation::returns_in_force(sides), old.dr, v);
+    if !codes::is_done(code) {
+        return refused(s, code);
     }
     let n = disposition::put_suggestion(DR, v, wire);
     let values = disposition::with_dr(old, v);
@@ -220,9 +198,6 @@ pub fn report(s: Printer) -> Handling
     ensures { λ r. ⌜ r ≡ returnsReport (viewPrinter s) ⌝ }
 {
     let sides = s.sides;
-    if on::returns(sides) {
-        let values = s.values;
-        return disposition::handling_of(values);
-    }
-    Handling::Receiver(UNSPOKEN_DS)
+    let values = s.values;
+    disposition::handling_while(negotiation::returns_in_force(sides), values)
 }

@@ -11,7 +11,6 @@ mod body;
 pub mod calls;
 mod moves;
 mod network;
-mod on;
 
 // The whole state: negotiation, reader, macros, RCTE's control, the two carriage-return values.
 pub struct Printer {

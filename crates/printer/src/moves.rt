@@ -8,10 +8,10 @@ ghost use Rattle.printer.specs.Kept.{viewPrinter, sidesMoved, MetStep, M
 ghost use Rattle.codes.specs.declared.Note.the-variants.{Clear};
 use crate::Printer;
 use crate::Step;
-use crate::on;
 use codes::Note;
 use codes::Verb;
 use codes::Whose;
+use negotiation::End;
 use negotiation::Reply;
 use negotiation::Side;
 use negotiation::Standing;
@@ -35,7 +35,7 @@ fn rcte_ended(s: Printer, paper: &mut [u8], wire: &mut [u8]) -> Step
     ensures { λ r. ⌜ MetStep (rcteMoved true false (viewPrinter s)) s (now (paper .entry)) (now (paper .exit)) (now (wire .entry)) (now (wire .exit)) r ⌝ }
 {
     let sides = s.sides;
-    let echoed = on::echo(sides);
+    let echoed = negotiation::echo_in_force(sides);
     let control = s.echo;
     let e = echo::ended(control, echoed, paper, wire);
     let after = e.echo;
@@ -56,7 +56,7 @@ fn rcte_moved(s: Printer, q: Standing, paper: &mut [u8], wire: &mut [u8]) -> Ste
     ensures { λ r. ⌜ MetStep (sideMoved (viewPrinter s) Rcte q) s (now (paper .entry)) (now (paper .exit)) (now (wire .entry)) (now (wire .exit)) r ⌝ }
 {
     let old = s.sides;
-    let was = on::rcte(old);
+    let was = negotiation::rcte_in_force(old);
     let on = negotiation::is_yes(q);
     let sides = negotiation::moved(old, Side::Rcte, q);
     let mut t = s;
@@ -175,24 +175,11 @@ pub fn negotiated(s: Printer, v: Verb, option: u8, paper: &mut [u8], wire: &mut 
     requires { ⌜ RoomFor (negotiationRead (viewPrinter s) v option .wire) (now wire) ⌝ }
     ensures { λ r. ⌜ MetStep (negotiationRead (viewPrinter s) v option) s (now (paper .entry)) (now (paper .exit)) (now (wire .entry)) (now (wire .exit)) r ⌝ }
 {
-    let whose = codes::whose_of(v);
-    let enable = codes::enables(v);
-    let side = negotiation::printer_side(whose, option);
     let sides = s.sides;
-    if negotiation::is_carried(side) {
-        let agreed = negotiation::free(sides, side);
-        let old = negotiation::standing_of(sides, side);
-        let h = negotiation::hear(enable, agreed, old);
-        let q = h.next;
-        let reply = h.reply;
-        return replied(s, side, q, whose, reply, option, paper, wire);
-    }
-    let reply = negotiation::declined(enable);
-    let n = negotiation::put_reply(whose, reply, option, wire);
-    Step {
-        note: Note::Clear,
-        paper: 0,
-        wire: n,
-        state: s,
-    }
+    let turn = negotiation::heard_by(End::Printer, sides, v, option);
+    let side = turn.side;
+    let q = turn.next;
+    let whose = turn.whose;
+    let reply = turn.reply;
+    replied(s, side, q, whose, reply, option, paper, wire)
 }

@@ -9,9 +9,9 @@ use crate::Printer;
 use crate::Step;
 use crate::body;
 use crate::moves;
-use crate::on;
 use codes::Note;
 use macros::Text;
+use negotiation::End;
 use negotiation::Sides;
 use reader::Item;
 use reader::Phase;
@@ -20,10 +20,10 @@ use reader::Phase;
 pub fn is_ordinary(sides: Sides, phase: Phase, b: u8) -> bool
     ensures { λ r. ⌜ r ≡ isOrdinary sides phase b ⌝ }
 {
-    if on::macros(sides) {
+    if negotiation::macros_in_force(End::Printer, sides) {
         return false;
     }
-    if on::rcte(sides) {
+    if negotiation::rcte_in_force(sides) {
         return false;
     }
     reader::is_data(phase, b)
@@ -36,7 +36,7 @@ pub fn data_read(s: Printer, b: u8, paper: &mut [u8]) -> Step
 {
     paper[0] = b;
     let sides = s.sides;
-    if on::rcte(sides) {
+    if negotiation::rcte_in_force(sides) {
         let control = s.echo;
         let held = echo::holding(control);
         let mut t = s;
@@ -143,7 +143,7 @@ pub fn network_read(s: Printer, b: u8, paper: &mut [u8], wire: &mut [u8]) -> Ste
     ensures { λ r. ⌜ MetStep (networkRead (viewPrinter s) b) s (now (paper .entry)) (now (paper .exit)) (now (wire .entry)) (now (wire .exit)) r ⌝ }
 {
     let sides = s.sides;
-    if !on::macros(sides) {
+    if !negotiation::macros_in_force(End::Printer, sides) {
         return byte_read(s, b, paper, wire);
     }
     if macros::is_unmarked(&s.table.marks, b) {

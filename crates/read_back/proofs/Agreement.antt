@@ -1,4 +1,4 @@
--- One byte of text, or a macro's byte, read by a printer end that agrees with the bulletin end.
+-- Bytes of text, and a macro's byte, read by a printer end that agrees with the bulletin end.
 use mathlib.Core.Path.{_≡_, refl, sym, _∙_}
 use mathlib.Core.Bool.{Bool, true, false, false≢true}
 use mathlib.Core.List.{List, [], _∷_}
@@ -6,18 +6,16 @@ use Prim.Native.Nat.{ℕ}
 use lib.Dec.{eqb}
 use borrow.Author.Tests.{eqb-true}
 use Rattle.lists.specs.Choice.{pick}
+use Rattle.lists.proofs.Lengths.{chosen}
 use Rattle.lists.proofs.Uniform.{getD-uniform}
 use Rattle.codes.specs.Telnet.{IAC}
 use Rattle.wire.specs.Frames.{coded, literal}
-use Rattle.definitions.specs.Sending.{Sent, free, pending, pendingFree, accepted, refused, noDefinitions, sentOf, isFree, stored, dataBytes}
+use Rattle.definitions.specs.Sending.{Sent, free, pending, pendingFree, accepted, refused, noDefinitions, sentOf, isFree, dataBytes, allDataBytes}
 use Rattle.printer.specs.State as P
-use Rattle.printer.specs.Network.{networkRead, byteRead}
 use Rattle.bulletin.specs.State as B
-use Rattle.read_back.specs.ReadBack.{Agreed, ReadAs, MacroReadBack}
-use Rattle.read_back.proofs.Sessions.{IacFree}
-use Rattle.read_back.proofs.Steps.{steps, last, readAll-steps}
-use Rattle.read_back.proofs.Bytes.{replaced, coded-read, literal-read, stored-read}
-use Rattle.printer.proofs.Choosing.{plain-read, off-read, inside-read}
+use Rattle.read_back.specs.ReadBack.{Agreed, IacFree, OnlyHolds}
+use Rattle.read_back.proofs.Steps.{reads, Reads, steps, all-read}
+use Rattle.read_back.proofs.Bytes.{Stands, off-stands, plain-stands, coded-read, literal-read}
 
 free-is : (e : Sent) → isFree e ≡ true → e ≡ free
 free-is free h = refl
@@ -26,42 +24,61 @@ free-is pendingFree h = absurd (false≢true h)
 free-is (accepted t) h = absurd (false≢true h)
 free-is refused h = absurd (false≢true h)
 
+-- 255 is free whether BM is in force or not
+iac-now : (b : B.Bulletin) → IacFree b → sentOf (B.definitionsNow b) IAC ≡ free
+iac-now b iac = chosen (λ t. sentOf t IAC ≡ free) (B.macrosOn b) (λ e. iac) (λ e. getD-uniform 256 IAC free)
+
 coded-bare : (x : ℕ) → eqb x IAC ≡ false → coded x ≡ x ∷ []
 unfolding coded
 coded-bare x k = rw k
 
-module _ (b : B.Bulletin) (iac : IacFree b) where
-  pub iac-stands : (p : P.Printer) → Agreed b p → networkRead p IAC ≡ byteRead p IAC
-  iac-stands p a = plain-read p IAC (a .none IAC iac)
-
-  -- a byte other than 255: bare where it is free or BM is not in force, else as LITERAL
-  module _ (p : P.Printer) (a : Agreed b p) (x : ℕ) (k : eqb x IAC ≡ false) where
-    bare-read : networkRead p x ≡ byteRead p x → ReadAs (x ∷ []) p (steps networkRead p (x ∷ []))
-    bare-read e = rw (coded-bare x k) at (coded-read networkRead inside-read p x (a .between) e)
-
-    free-or-not : (t : Bool) → isFree (sentOf (b .table) x) ≡ t → B.macrosOn b ≡ true
-        → ReadAs (x ∷ []) p (steps networkRead p (pick t (x ∷ []) (literal x)))
-    free-or-not true e m = bare-read (plain-read p x (a .none x (free-is (sentOf (b .table) x) e)))
-    free-or-not false e m = literal-read p x (a .between) (iac-stands p a) (sym (a .macros) ∙ m) k
-
-    on-or-off : (t : Bool) → B.macrosOn b ≡ t
-        → ReadAs (x ∷ []) p (steps networkRead p (pick (isFree (sentOf (pick t (b .table) noDefinitions) x)) (x ∷ []) (literal x)))
-    on-or-off true m = free-or-not (isFree (sentOf (b .table) x)) refl m
-    on-or-off false m = rw (getD-uniform 256 x free) (bare-read (off-read p x (sym (a .macros) ∙ m)))
-
-  pub byte-read : (p : P.Printer) → Agreed b p → (x : ℕ)
-      → ReadAs (x ∷ []) p (steps networkRead p (dataBytes (B.definitionsNow b) x))
-  unfolding dataBytes
-  byte-read p a x = go (eqb x IAC) refl
+module _ (b : B.Bulletin) (iac : IacFree b) (p : P.Printer) (a : Agreed b p) where
+  -- a byte that is free now at the bulletin end is read as it stands
+  free-stands : (x : ℕ) → sentOf (B.definitionsNow b) x ≡ free → Stands p x
+  free-stands x h = go (P.macrosOn p) refl
     where
-      bytes : List ℕ
-      bytes = pick (isFree (sentOf (B.definitionsNow b) x)) (x ∷ []) (literal x)
+      go : (t : Bool) → P.macrosOn p ≡ t → Stands p x
+      go true on = plain-stands p x (a .none on x h)
+      go false off = off-stands p x off
 
-      go : (t : Bool) → eqb x IAC ≡ t → ReadAs (x ∷ []) p (steps networkRead p (pick t (coded x) bytes))
-      go true e = coded-read networkRead inside-read p x (a .between) (rw (eqb-true x IAC e) (iac-stands p a))
-      go false e = on-or-off p a x e (B.macrosOn b) refl
+  pub iac-stands : Stands p IAC
+  iac-stands = free-stands IAC (iac-now b iac)
 
-pub macro-read-back : MacroReadBack
-macro-read-back b p a m x t h =
-    let e = replaced p x (stored t) (sym (a .macros) ∙ m) (a .between) (a .same x t h) in
-    rw (readAll-steps p (x ∷ []), last networkRead p x, e) (stored-read p t (a .between))
+  -- a byte other than 255: bare where it is free now, else as LITERAL; BM is then in force
+  other-read : (x : ℕ) → eqb x IAC ≡ false
+      → Reads (x ∷ []) p (steps reads p (pick (isFree (sentOf (B.definitionsNow b) x)) (x ∷ []) (literal x)))
+  other-read x k =
+      chosen (λ bytes. Reads (x ∷ []) p (steps reads p bytes)) (isFree (sentOf (B.definitionsNow b) x))
+      (λ e. rw (coded-bare x k) at (coded-read p x (a .between) (free-stands x (free-is _ e))))
+      (λ e. literal-read p x (a .between) iac-stands (a .macros (on (B.macrosOn b) refl e)) k)
+    where
+      on : (t : Bool) → B.macrosOn b ≡ t → isFree (sentOf (pick t (b .table) noDefinitions) x) ≡ false → B.macrosOn b ≡ true
+      on true m e = m
+      on false m e = absurd (false≢true (sym e ∙ rw (getD-uniform 256 x free)))
+
+  byte-read : (x : ℕ) → Reads (x ∷ []) p (steps reads p (dataBytes (B.definitionsNow b) x))
+  unfolding dataBytes
+  byte-read x =
+      chosen (λ bytes. Reads (x ∷ []) p (steps reads p bytes)) (eqb x IAC)
+      (λ e. coded-read p x (a .between) (rw (eqb-true x IAC e) iac-stands))
+      (λ e. other-read x e)
+
+-- two states of the bulletin end that agreement does not tell apart
+pub record SameTable (b c : B.Bulletin) : Type 0 where
+  pub sides : c .sides ≡ b .sides
+  pub table : c .table ≡ b .table
+
+-- at the printer end it turns on the sides, the table and the phase alone
+pub agreed-after : {b c : B.Bulletin} {x : List ℕ} {p q : P.Printer} → SameTable b c → OnlyHolds x p q → Agreed b p → Agreed c q
+agreed-after s h a = record {
+  macros = rw (s .sides, h .sides) (a .macros);
+  between = h .between;
+  same = rw (s .sides, s .table, h .table) (a .same);
+  none = rw (s .sides, s .table, h .sides, h .table) (a .none);
+}
+
+pub text-read : (b : B.Bulletin) → IacFree b → (p : P.Printer) → Agreed b p → (bs : List ℕ)
+    → Reads bs p (steps reads p (allDataBytes (B.definitionsNow b) bs))
+text-read b iac p a bs =
+    all-read reads (dataBytes (B.definitionsNow b)) (Agreed b) (λ q r. r .between)
+    (λ x q r h k. agreed-after (record { sides = refl; table = refl }) h k) (byte-read b iac) bs p a

@@ -1,6 +1,7 @@
--- One data byte read: bare, doubled, or as LITERAL; and a macro's stored text.
+-- How the printer end reads bytes of text by its network calls: bare, doubled, as LITERAL, or a macro's byte. No other
+-- law of this crate looks inside the printer end's rules of a network byte.
 use mathlib.Core.Path.{_≡_, refl, _∙_}
-use mathlib.Core.Bool.{Bool, true, false, and-eq-true-iff}
+use mathlib.Core.Bool.{Bool, true, false}
 use mathlib.Core.List.{List, [], _∷_, _++_}
 use Prim.Native.Nat.{ℕ, _<_}
 use native.Mathlib.Omega.{arith}
@@ -9,18 +10,31 @@ use lib.Dec.{eqb, leb, ltb, lit<}
 use borrow.Author.Tests.{eqb-true, leb-true, ne-eqb}
 use Rattle.lists.specs.Choice.{pick}
 use Rattle.lists.specs.Lists.{joined}
+use Rattle.lists.proofs.Tables.{both-right}
+use Rattle.codes.specs.Answers.{guarded}
 use Rattle.codes.specs.Telnet.{IAC, SB, SE, BM, LITERAL, plainCommand}
-use Rattle.wire.specs.Frames.{coded, frame, literal, command, doubled}
+use Rattle.wire.specs.Frames.{coded, frame, literal, command}
 use Rattle.reader.specs.declared.Phase.{Phase}
 use Rattle.reader.specs.declared.Phase.the-variants.{Between, AfterIac, InBody, InBodyAfterIac}
 use Rattle.reader.specs.Reading.{Reader, inPhase, isBetween, read, commandRead, bodyCommandRead, keeping, byOption, bodyRoom, idle}
+use Rattle.subnegotiation.specs.Checks.{optionChecked, checked}
 use Rattle.bodies.specs.MacroBodies.{macroBody}
-use Rattle.macros.specs.Texts.{entryOf, text}
+use Rattle.macros.specs.Texts.{plain, entryOf, text}
+use Rattle.definitions.specs.Sending.{stored}
 use Rattle.printer.specs.State.{Printer, Did, nothing, withReader, rcteOn, macrosOn}
-use Rattle.printer.specs.Network.{networkRead, byteRead, bytesRead, dataRead, optionRead, bodyRead}
-use Rattle.read_back.specs.ReadBack.{ReadAs}
-use Rattle.read_back.proofs.Steps.{steps, silent, last, all-read, none-read, bytesRead-steps}
-use Rattle.printer.proofs.Choosing.{inside-read}
+use Rattle.printer.specs.Network.{networkRead, byteRead, bytesRead, dataRead, bodyRead}
+use Rattle.printer.specs.Calls.{networkCall}
+use Rattle.read_back.proofs.Steps.{reads, Reads, steps, silent, last, all-read, none-read}
+use Rattle.printer.proofs.Choosing.{plain-read, off-read, inside-read}
+
+pub reads-network : (p : Printer) (x : ℕ) → reads p x ≡ networkRead p x
+unfolding networkCall guarded
+reads-network p x = refl
+
+bytesRead-steps : (p : Printer) (xs : List ℕ) → bytesRead p xs ≡ steps byteRead p xs
+unfolding bytesRead steps
+bytesRead-steps p [] = refl
+bytesRead-steps p (x ∷ xs) = rw (bytesRead-steps (byteRead p x .state) xs)
 
 pick-same : {X : Type 0} (t : Bool) (x : X) → pick t x x ≡ x
 pick-same true x = refl
@@ -32,30 +46,45 @@ part f true x y = refl
 part f false x y = refl
 
 -- data is printed and holds; the reader's kept bytes are of no account between commands
-pub data-read : (p : Printer) (r : Reader) (b : ℕ) → r .phase ≡ Between → (p .reader ≡ idle → r ≡ idle)
-    → ReadAs (b ∷ []) p (dataRead (withReader p r) b)
+data-read : (p : Printer) (r : Reader) (b : ℕ) → r .phase ≡ Between → (p .reader ≡ idle → r ≡ idle)
+    → Reads (b ∷ []) p (dataRead (withReader p r) b)
 unfolding dataRead
 data-read p r b h still = record {
   note = refl;
   paper = refl;
   wire = refl;
   taken = refl;
-  sides = part (λ s. s .sides) (rcteOn p) _ _ ∙ pick-same (rcteOn p) _;
-  between = part (λ s. s .reader .phase) (rcteOn p) _ _ ∙ (pick-same (rcteOn p) _ ∙ h);
-  reader = λ (i : p .reader ≡ idle). part (λ s. s .reader) (rcteOn p) _ _ ∙ (pick-same (rcteOn p) _ ∙ still i);
-  table = part (λ s. s .table) (rcteOn p) _ _ ∙ pick-same (rcteOn p) _;
-  echo = part (λ s. s .echo) (rcteOn p) _ _;
-  values = part (λ s. s .values) (rcteOn p) _ _ ∙ pick-same (rcteOn p) _;
+  state = record {
+    sides = part (λ s. s .sides) (rcteOn p) _ _ ∙ pick-same (rcteOn p) _;
+    between = part (λ s. s .reader .phase) (rcteOn p) _ _ ∙ (pick-same (rcteOn p) _ ∙ h);
+    reader = λ (i : p .reader ≡ idle). part (λ s. s .reader) (rcteOn p) _ _ ∙ (pick-same (rcteOn p) _ ∙ still i);
+    table = part (λ s. s .table) (rcteOn p) _ _ ∙ pick-same (rcteOn p) _;
+    echo = part (λ s. s .echo) (rcteOn p) _ _;
+    values = part (λ s. s .values) (rcteOn p) _ _ ∙ pick-same (rcteOn p) _;
+  };
 }
 
-abbrev Ready : Printer → Type 0
+abbrev pub Ready : Printer → Type 0
 Ready p = p .reader .phase ≡ Between
+
+-- the byte is read as it stands, no text put for it
+abbrev pub Stands : Printer → ℕ → Type 0
+Stands p x = reads p x ≡ byteRead p x
+
+pub off-stands : (p : Printer) (x : ℕ) → macrosOn p ≡ false → Stands p x
+off-stands p x e = reads-network p x ∙ off-read p x e
+
+pub plain-stands : (p : Printer) (x : ℕ) → entryOf (p .table) x ≡ plain → Stands p x
+plain-stands p x e = reads-network p x ∙ plain-read p x e
+
+inside-stands : (p : Printer) (x : ℕ) → isBetween (p .reader .phase) ≡ false → Stands p x
+inside-stands p x e = reads-network p x ∙ inside-read p x e
 
 abbrev at : Printer → Phase → Printer
 at p q = withReader p (inPhase (p .reader) q)
 
 idle-at : (p : Printer) → p .reader ≡ idle → inPhase (p .reader) Between ≡ idle
-idle-at p h = rw h
+idle-at p i = rw i
 
 -- a byte that is no IAC, read as it stands
 byte-data : (p : Printer) (b : ℕ) → Ready p → eqb b IAC ≡ false → byteRead p b ≡ dataRead p b
@@ -72,7 +101,7 @@ byte-iac-iac p = refl
 
 -- a plain command is none of the bytes from 250 on
 apart : (c n : ℕ) → plainCommand c ≡ true → 249 < n → eqb c n ≡ false
-apart c n h k = ne-eqb c n (λ (e : c ≡ n). omega (arith, leb-true c 249 (and-eq-true-iff (leb 241 c) (leb c 249) .0 h .1)))
+apart c n h k = ne-eqb c n (λ (e : c ≡ n). omega (arith, leb-true c 249 (both-right (leb 241 c) (leb c 249) h)))
 
 byte-command : (p : Printer) (c : ℕ) → plainCommand c ≡ true → byteRead (at p AfterIac) c ≡ nothing (at p Between)
 unfolding byteRead read commandRead
@@ -80,16 +109,10 @@ byte-command p c h =
     let past : (n : ℕ) → 249 < n → eqb c n ≡ false = λ n k. apart c n h k in
     rw (past 255 (lit< tt), past 250 (lit< tt), past 251 (lit< tt), past 252 (lit< tt), past 253 (lit< tt), past 254 (lit< tt), h)
 
--- with BM in force, between commands, a defined byte is replaced
-pub replaced : (p : Printer) (b : ℕ) (t : List ℕ) → macrosOn p ≡ true → Ready p → entryOf (p .table) b ≡ text t
-    → networkRead p b ≡ bytesRead p t
-unfolding networkRead
-replaced p b t m h e = rw (m, h, e)
-
 -- doubled bytes, read by a rule that takes this one as it stands and replaces nothing inside a command
 module _ (f : Printer → ℕ → Did)
     (within : (q : Printer) (x : ℕ) → isBetween (q .reader .phase) ≡ false → f q x ≡ byteRead q x) where
-  iac-read : (p : Printer) → Ready p → f p IAC ≡ byteRead p IAC → ReadAs (IAC ∷ []) p (steps f p (IAC ∷ IAC ∷ []))
+  iac-read : (p : Printer) → Ready p → f p IAC ≡ byteRead p IAC → Reads (IAC ∷ []) p (steps f p (IAC ∷ IAC ∷ []))
   iac-read p h e =
       rw (
         silent f p (at p AfterIac) IAC (IAC ∷ []) (e ∙ byte-iac p h),
@@ -99,22 +122,26 @@ module _ (f : Printer → ℕ → Did)
       )
       (data-read p (inPhase (p .reader) Between) IAC refl (idle-at p))
 
-  pub coded-read : (p : Printer) (b : ℕ) → Ready p → f p b ≡ byteRead p b → ReadAs (b ∷ []) p (steps f p (coded b))
+  doubled-read : (p : Printer) (b : ℕ) → Ready p → f p b ≡ byteRead p b → Reads (b ∷ []) p (steps f p (coded b))
   unfolding coded
-  coded-read p b h e = go (eqb b IAC) refl
+  doubled-read p b h e = go (eqb b IAC) refl
     where
-      go : (t : Bool) → eqb b IAC ≡ t → ReadAs (b ∷ []) p (steps f p (pick t (IAC ∷ IAC ∷ []) (b ∷ [])))
+      go : (t : Bool) → eqb b IAC ≡ t → Reads (b ∷ []) p (steps f p (pick t (IAC ∷ IAC ∷ []) (b ∷ [])))
       go true k = let q = eqb-true b IAC k in rw q (iac-read p h (rw q at e))
       go false k = rw (last f p b, e, byte-data p b h k) (data-read p (p .reader) b h (λ i. i))
 
+-- a byte that stands, 255 doubled
+pub coded-read : (p : Printer) (b : ℕ) → Ready p → Stands p b → Reads (b ∷ []) p (steps reads p (coded b))
+coded-read p b h e = doubled-read reads inside-stands p b h e
+
 -- IAC and a command
-pub command-read : (p : Printer) (c : ℕ) → Ready p → networkRead p IAC ≡ byteRead p IAC → plainCommand c ≡ true
-    → ReadAs [] p (steps networkRead p (command c))
+pub command-read : (p : Printer) (c : ℕ) → Ready p → Stands p IAC → plainCommand c ≡ true
+    → Reads [] p (steps reads p (command c))
 command-read p c h e k =
     rw (
-      silent networkRead p (at p AfterIac) IAC (c ∷ []) (e ∙ byte-iac p h),
-      last networkRead (at p AfterIac) c,
-      inside-read (at p AfterIac) c refl,
+      silent reads p (at p AfterIac) IAC (c ∷ []) (e ∙ byte-iac p h),
+      last reads (at p AfterIac) c,
+      inside-stands (at p AfterIac) c refl,
       byte-command p c k,
     )
     (none-read p (inPhase (p .reader) Between) refl (idle-at p))
@@ -142,36 +169,43 @@ kept-iac p bs = refl
 
 kept-se : (p : Printer) (x : ℕ) → macrosOn p ≡ true → eqb x IAC ≡ false
     → byteRead (kept p (BM ∷ LITERAL ∷ x ∷ []) InBodyAfterIac) SE ≡ dataRead (withReader p idle) x
-unfolding byteRead read bodyCommandRead bodyRead byOption optionRead macroBody
+unfolding byteRead read bodyCommandRead bodyRead checked byOption optionChecked macroBody
 kept-se p x m k = rw (m, k)
 
 -- a byte inside a command that completes nothing
 inner : (p q : Printer) (x : ℕ) (xs : List ℕ) → isBetween (p .reader .phase) ≡ false → byteRead p x ≡ nothing q
-    → steps networkRead p (x ∷ xs) ≡ steps networkRead q xs
-inner p q x xs h e = silent networkRead p q x xs (inside-read p x h ∙ e)
+    → steps reads p (x ∷ xs) ≡ steps reads q xs
+inner p q x xs h e = silent reads p q x xs (inside-stands p x h ∙ e)
 
-pub literal-read : (p : Printer) (x : ℕ) → Ready p → networkRead p IAC ≡ byteRead p IAC → macrosOn p ≡ true → eqb x IAC ≡ false
-    → ReadAs (x ∷ []) p (steps networkRead p (literal x))
+pub literal-read : (p : Printer) (x : ℕ) → Ready p → Stands p IAC → macrosOn p ≡ true → eqb x IAC ≡ false
+    → Reads (x ∷ []) p (steps reads p (literal x))
 literal-read p x h e m k =
     let lit = BM ∷ LITERAL ∷ [] in
     let all = BM ∷ LITERAL ∷ x ∷ [] in
     rw (
       literal-bytes x k,
-      silent networkRead p (at p AfterIac) IAC _ (e ∙ byte-iac p h),
+      silent reads p (at p AfterIac) IAC _ (e ∙ byte-iac p h),
       inner (at p AfterIac) (kept p [] InBody) SB _ refl (kept-sb p),
       inner (kept p [] InBody) (kept p (BM ∷ []) InBody) BM _ refl (kept-byte p [] BM refl refl),
       inner (kept p (BM ∷ []) InBody) (kept p lit InBody) LITERAL _ refl (kept-byte p (BM ∷ []) LITERAL refl refl),
       inner (kept p lit InBody) (kept p all InBody) x _ refl (kept-byte p lit x k refl),
       inner (kept p all InBody) (kept p all InBodyAfterIac) IAC _ refl (kept-iac p all),
-      last networkRead (kept p all InBodyAfterIac) SE,
-      inside-read (kept p all InBodyAfterIac) SE refl,
+      last reads (kept p all InBodyAfterIac) SE,
+      inside-stands (kept p all InBodyAfterIac) SE refl,
       kept-se p x m k,
     )
     (data-read p idle x refl (λ i. refl))
 
--- a stored text is read as the text
-pub stored-read : (p : Printer) (t : List ℕ) → Ready p → ReadAs t p (bytesRead p (doubled t))
-stored-read p t h =
-    rw (bytesRead-steps p (doubled t))
-    (all-read byteRead coded Ready (λ q r. r) (λ x q d r k. r .between)
-    (λ q r b. coded-read byteRead (λ s x e. refl) q b r refl) t p h)
+-- with BM in force, between commands, a defined byte is replaced
+replaced : (p : Printer) (b : ℕ) (t : List ℕ) → macrosOn p ≡ true → Ready p → entryOf (p .table) b ≡ text t
+    → networkRead p b ≡ bytesRead p t
+unfolding networkRead
+replaced p b t m h e = rw (m, h, e)
+
+-- a macro's byte is read as the text whose stored form it has
+pub macro-read : (p : Printer) (x : ℕ) (t : List ℕ) → macrosOn p ≡ true → Ready p → entryOf (p .table) x ≡ text (stored t)
+    → Reads t p (steps reads p (x ∷ []))
+macro-read p x t m h e =
+    rw (last reads p x, reads-network p x, replaced p x (stored t) m h e, bytesRead-steps p (stored t))
+    (all-read byteRead coded Ready (λ q r. r) (λ y q s r k. r .between)
+    (λ q r b. doubled-read byteRead (λ s y k. refl) q b r refl) t p h)

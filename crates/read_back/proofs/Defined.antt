@@ -1,96 +1,56 @@
 -- The ends after a definition, by computation.
 use mathlib.Core.Path.{_≡_, refl, sym, _∙_}
-use mathlib.Core.Bool.{Bool, true, false}
+use mathlib.Core.Bool.{true, false, false≢true}
 use mathlib.Core.List.{List, [], _∷_, _++_}
 use Prim.Native.Nat.{ℕ}
-use lib.ListN.{set, getD, replicate}
-use lib.Seq.{getD-set-other}
-use lib.Dec.{eqb}
-use borrow.Author.Tests.{eqb-true, eqb-false}
-use Rattle.lists.specs.Lists.{sum, joined}
+use lib.ListN.{set}
+use lib.Dec.{lit<, lit≤}
 use Rattle.lists.proofs.Uniform.{getD-uniform}
-use Rattle.codes.specs.Answers.{guarded}
-use Rattle.wire.specs.Frames.{coded, frame}
-use Rattle.negotiation.specs.Carried.{printerSide, clashes, askedSide, heardBy, askedBy}
-use Rattle.negotiation.specs.Table.{heard, asked}
-use Rattle.reader.specs.Reading.{keeping, commandRead, bodyCommandRead, read, byOption}
 use Rattle.reader.specs.declared.Phase.the-variants.{Between}
-use Rattle.bodies.specs.MacroBodies.{macroBody, replyBody}
-use Rattle.macros.specs.Texts.{Entry, plain, text, noMacros, entryOf, total, defined, judged}
-use Rattle.definitions.specs.Sending.{Sent, free, accepted, noDefinitions, sentOf, stored, sentTotal, defining, isTooLong, defineBytes, dataBytes}
-use Rattle.disposition.specs.Returns.{itemData}
+use Rattle.macros.specs.Texts.{plain, text, noMacros}
+use Rattle.definitions.specs.Sending.{accepted, noDefinitions, stored}
 use Rattle.printer.specs.State as P
-use Rattle.printer.specs.Network as PN
 use Rattle.bulletin.specs.State as B
-use Rattle.bulletin.specs.Network as BN
-use Rattle.bulletin.specs.Calls as BC
-use Rattle.bulletin.specs.Session as BS
-use Rattle.read_back.specs.ReadBack.{readAll, allData, stateAfter, reached}
+use Rattle.read_back.specs.Ends.{printerPaper, printerWire, printerAfter, reached, NetworkCalls, none, byte}
 use Rattle.read_back.specs.Defined as D
-use Rattle.read_back.proofs.Sent.{free-alone, all-read-back}
+use Rattle.read_back.proofs.Opened.{bothRules}
+use Rattle.read_back.proofs.Sessions.{iac-stays-free}
+use Rattle.read_back.proofs.Tables.{same-text, no-text, free-alone}
+use Rattle.read_back.proofs.ReadBack.{all-read-back, demanded-agree}
 
--- the rules, opened for computation
-unfoldable opened : Unit {0}
-unfolding sum joined guarded coded frame printerSide clashes askedSide heardBy askedBy heard asked keeping commandRead bodyCommandRead read byOption macroBody replyBody total defined judged sentTotal defining isTooLong defineBytes PN.dataRead PN.sideMoved PN.sideHeard PN.negotiationRead PN.optionRead PN.bodyRead PN.byteRead PN.bytesRead PN.networkRead BN.dataRead BN.sideMoved BN.sideHeard BN.negotiationRead BN.optionRead BN.bodyRead BN.networkRead BC.networkCall BC.askCall BC.defineCall BC.useCall BC.textCall BC.itemSent BC.textData BC.useData itemData dataBytes BS.called BS.answersFrom readAll stateAfter allData
-opened = tt
+abbrev after : P.Printer
+after = printerAfter P.fresh D.read
 
-wire-is : D.across .wire ≡ D.agrees ++ D.accepts
-unfolding opened
+wire-is : printerWire D.read ≡ D.agrees ++ D.accepts
+unfolding bothRules
 wire-is = refl
 
-paper-is : D.across .paper ≡ []
-unfolding opened
+paper-is : printerPaper D.read ≡ []
+unfolding bothRules
 paper-is = refl
 
 here-on : B.macrosOn (reached D.calls) ≡ true
-unfolding opened
+unfolding bothRules
 here-on = refl
 
-there-on : P.macrosOn (D.across .state) ≡ true
-unfolding opened
+there-on : P.macrosOn after ≡ true
+unfolding bothRules
 there-on = refl
 
-between-there : D.across .state .reader .phase ≡ Between
-unfolding opened
+between-there : after .reader .phase ≡ Between
+unfolding bothRules
 between-there = refl
 
-abbrev here : List Sent
-here = set noDefinitions 128 (accepted D.macroText)
-
-abbrev there : List Entry
-there = set noMacros 128 (text (72 ∷ 255 ∷ 255 ∷ []))
-
-here-is : reached D.calls .table ≡ here
-unfolding opened
+here-is : reached D.calls .table ≡ set noDefinitions 128 (accepted D.macroText)
+unfolding bothRules
 here-is = refl
 
-there-is : D.across .state .table ≡ there
-unfolding opened
+there-is : after .table ≡ set noMacros 128 (text (stored D.macroText))
+unfolding bothRules
 there-is = refl
 
-elsewhere : {X : Type 0} (d v : X) (x : ℕ) → eqb x 128 ≡ false → getD (set (replicate 256 d) 128 v) x d ≡ d
-elsewhere d v x k = getD-set-other (replicate 256 d) 128 x v d (λ (e : x ≡ 128). eqb-false x 128 k e) ∙ getD-uniform 256 x d
-
-same-there : (x : ℕ) (t : List ℕ) → sentOf here x ≡ accepted t → entryOf there x ≡ text (stored t)
-unfolding joined coded
-same-there x t h = go (eqb x 128) refl
-  where
-    go : (c : Bool) → eqb x 128 ≡ c → entryOf there x ≡ text (stored t)
-    go true k =
-        let q = eqb-true x 128 k in
-        let g : accepted D.macroText ≡ accepted t = rw q at h in
-        let e : D.macroText ≡ t = cc in
-        rw (q, ← e)
-    go false k = absurd (free-alone t (sym (elsewhere free (accepted D.macroText) x k) ∙ h))
-
-none-there : (x : ℕ) → sentOf here x ≡ free → entryOf there x ≡ plain
-none-there x h = go (eqb x 128) refl
-  where
-    go : (c : Bool) → eqb x 128 ≡ c → entryOf there x ≡ plain
-    go true k =
-        let g : accepted D.macroText ≡ free = rw (eqb-true x 128 k) at h in
-        absurd (free-alone D.macroText (sym g))
-    go false k = elsewhere plain (text (72 ∷ 255 ∷ 255 ∷ [])) x k
+stored-as : (t : List ℕ) → accepted D.macroText ≡ accepted t → text (stored D.macroText) ≡ text (stored t)
+stored-as t h = let e : D.macroText ≡ t = cc in rw e
 
 pub defined-agree : D.DefinedAgree
 defined-agree = record {
@@ -98,20 +58,58 @@ defined-agree = record {
   isAccepted = rw here-is;
   wire = wire-is;
   paper = paper-is;
-  agreed = record {
+  demanded = record {
     macros = here-on ∙ sym there-on;
-    between = between-there;
-    same = rw (here-is, there-is) same-there;
-    none = rw (here-is, there-is) none-there;
+    betweenCommands = between-there;
+    same = rw (here-is, there-is) (same-text 128 (lit< tt) (accepted D.macroText) (text (stored D.macroText)) stored-as);
+    none = rw (here-is, there-is) (no-text 128 (lit< tt) (accepted D.macroText) (text (stored D.macroText)) (λ h. absurd (free-alone D.macroText (sym h))));
   };
 }
 
+-- the least buffers are enough
+pub with-least : (bytes : List ℕ) → NetworkCalls bytes (D.toPrinter bytes)
+with-least [] = none
+with-least (x ∷ bytes) = byte (lit≤ tt) (lit≤ tt) (with-least bytes)
+
 pub defined-read-back : D.DefinedReadBack
-unfolding opened
+unfolding bothRules
 defined-read-back = record {
-  defines = refl;
+  defining = refl;
   wire = refl;
   dataSent = refl;
   paper = refl;
-  back = all-read-back D.calls (D.across .state) (defined-agree .agreed) D.sendings;
+  back =
+      all-read-back (reached D.calls) after (iac-stays-free D.calls) (demanded-agree (reached D.calls) after (defined-agree .demanded))
+      D.sendings (D.toPrinter D.sentWire) (with-least D.sentWire);
+}
+
+abbrev asked : P.Printer
+asked = printerAfter P.fresh (D.firstReads (D.wireOf D.asks))
+
+not-yet : B.macrosOn (reached D.asks) ≡ false
+unfolding bothRules
+not-yet = refl
+
+asked-on : P.macrosOn asked ≡ true
+unfolding bothRules
+asked-on = refl
+
+asked-between : asked .reader .phase ≡ Between
+unfolding bothRules
+asked-between = refl
+
+asked-empty : asked .table ≡ noMacros
+unfolding bothRules
+asked-empty = refl
+
+pub asked-agree : D.AskedAgree
+asked-agree = record {
+  notYet = not-yet;
+  inForce = asked-on;
+  agreed = record {
+    macros = λ on. asked-on;
+    between = asked-between;
+    same = λ on. absurd (false≢true (sym not-yet ∙ on));
+    none = λ on x h. rw asked-empty (getD-uniform 256 x plain);
+  };
 }

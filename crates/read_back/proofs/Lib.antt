@@ -1,6 +1,11 @@
-pub mod Sessions
 pub mod Steps
 pub mod Bytes
+pub mod Calls
 pub mod Agreement
+pub mod Sessions
 pub mod Sent
+pub mod Tables
+pub mod ReadBack
+pub mod Opened
 pub mod Defined
+pub mod Incident

@@ -1,46 +1,47 @@
--- Text items and uses of macros, alone and in lists, are read back.
+-- Text items and uses of macros: what the bulletin end answers to them, and that their bytes are read as their data.
 use mathlib.Core.Path.{_≡_, refl, sym, _∙_}
-use mathlib.Core.Bool.{true, false, false≢true}
-use mathlib.Core.List.{List, [], _∷_, _++_, map}
+use mathlib.Core.Bool.{Bool, true, false, not, _&&_, false≢true}
+use mathlib.Core.List.{List, [], _∷_}
 use Prim.Native.Nat.{ℕ}
-use native.Mathlib.Omega.{arith}
-use lib.Dec.{eqb}
-use borrow.Author.Tests.{not-false}
-use Rattle.lists.specs.Choice.{pick}
+use lib.Dec.{ltb, leb}
+use borrow.Author.Tests.{leb-true, ltb-false, le-ltb, le-leb, not-true, not-false}
 use Rattle.lists.specs.Lists.{joined}
-use Rattle.lists.proofs.Uniform.{getD-uniform}
-use Rattle.codes.specs.Answers.{Guard, codeNumber}
+use Rattle.lists.proofs.Lengths.{chosen}
+use Rattle.lists.proofs.Tables.{both-left, both-right}
+use Rattle.codes.specs.Answers.{Guard, guarded, wireRoom}
 use Rattle.codes.specs.Telnet.{plainCommand}
 use Rattle.keys.specs.declared.Key.{Key}
 use Rattle.keys.specs.declared.Key.the-variants.{Char, Line, Command}
-use Rattle.wire.specs.Frames.{command}
-use Rattle.macros.specs.Texts.{plain}
-use Rattle.definitions.specs.Sending.{Sent, free, pending, pendingFree, accepted, refused, sentOf, isAccepted, acceptedText, dataBytes, allDataBytes}
+use Rattle.keys.specs.Keys.{badCommand}
+use Rattle.definitions.specs.Sending.{Sent, free, pending, pendingFree, accepted, refused, sentOf, isAccepted, acceptedText}
 use Rattle.disposition.specs.Returns.{itemData}
 use Rattle.printer.specs.State as P
-use Rattle.printer.specs.Network.{networkRead}
 use Rattle.bulletin.specs.State as B
-use Rattle.bulletin.specs.Calls.{textCall, textData, useCall, useData, itemSent, badItem}
+use Rattle.bulletin.specs.Calls.{textCall, textData, useCall, useData, itemSent}
 use Rattle.bulletin.specs.Session as BS
-use Rattle.read_back.specs.ReadBack.{Agreed, readAll, ReadAs, ReadBack, Sending, item, macroUse, asCall, answer, sentData, allData, allWire}
-use Rattle.read_back.specs.ReadBack.{stateAfter, reached, FreshAgree, EachReadBack, AllReadBack}
+use Rattle.read_back.specs.Ends.{bulletinAfter}
+use Rattle.read_back.specs.TextSent.{Sending, item, macroUse, asCall, isItem, isAllowed, Allowed, dataOf, sentData, answer, answers, allData, allWire}
+use Rattle.read_back.specs.ReadBack.{Agreed, IacFree, OnlySends}
 use Rattle.codes.proofs.Guards.{Judged, stopped, passed, judged, NoneHolds}
-use Rattle.read_back.proofs.Sessions.{IacFree, called-free, iac-stays-free}
-use Rattle.read_back.proofs.Steps.{steps, steps-append, all-read, none-read, then-read, readAll-steps}
-use Rattle.read_back.proofs.Bytes.{command-read}
-use Rattle.read_back.proofs.Agreement.{iac-stands, byte-read, macro-read-back}
+use Rattle.read_back.proofs.Steps.{reads, Reads, steps, steps-append, none-read, then-read}
+use Rattle.read_back.proofs.Bytes.{command-read, macro-read}
+use Rattle.read_back.proofs.Agreement.{SameTable, agreed-after, iac-stands, text-read}
+use Rattle.read_back.proofs.Sessions.{called-free}
 
--- agreement turns on the sides, the table and the phase alone
-agreed-after : (b : B.Bulletin) (x : List ℕ) (p : P.Printer) (d : P.Did) → ReadAs x p d → Agreed b p → Agreed b (d .state)
-agreed-after b x p d r a = record {
-  macros = rw (r .sides) (a .macros);
-  between = r .between;
-  same = rw (r .table) (a .same);
-  none = rw (r .table) (a .none);
-}
+-- what an allowed one does
+abbrev does : B.Bulletin → Sending → B.Did
+does b (item k w) = itemSent b k
+does b (macroUse x w) = B.sends (x ∷ []) b
 
-pub free-alone : (t : List ℕ) → free ≡ accepted t → ⊥
-free-alone t h = let z : _≡_ {A = ℕ} 0 1 = cc in omega arith
+good-item : (k : Key) → isItem k ≡ true → badCommand k ≡ false
+good-item (Char c) h = refl
+good-item Line h = refl
+good-item (Command c) h = rw h
+
+not-bad : (k : Key) → badCommand k ≡ false → isItem k ≡ true
+not-bad (Char c) h = refl
+not-bad Line h = refl
+not-bad (Command c) h = not-false (plainCommand c) h
 
 accepted-is : (e : Sent) → isAccepted e ≡ true → e ≡ accepted (acceptedText e)
 accepted-is free h = absurd (false≢true h)
@@ -49,91 +50,137 @@ accepted-is pendingFree h = absurd (false≢true h)
 accepted-is (accepted t) h = refl
 accepted-is refused h = absurd (false≢true h)
 
-silence : (b : B.Bulletin) (p : P.Printer) → Agreed b p → ReadBack [] [] b p
-unfolding readAll
-silence b p a = record { read = none-read p (p .reader) (a .between) (λ i. i); agreed = a }
+-- what an item that is allowed meets, and that this is enough
+record ItemAllowed (b : B.Bulletin) (k : Key) (w : ℕ) : Type 0 where
+  room : ltb w wireRoom ≡ false
+  good : badCommand k ≡ false
+  ready : b .awaiting ≡ false
 
-module _ (b : B.Bulletin) (iac : IacFree b) where
-  text-read : (p : P.Printer) → Agreed b p → (bs : List ℕ) → ReadAs bs p (readAll p (allDataBytes (B.definitionsNow b) bs))
-  text-read p a bs =
-      rw (readAll-steps p (allDataBytes (B.definitionsNow b) bs))
-      (all-read networkRead (dataBytes (B.definitionsNow b)) (Agreed b) (λ q r. r .between) (agreed-after b)
-      (byte-read b iac) bs p a)
+record UseAllowed (b : B.Bulletin) (x w : ℕ) : Type 0 where
+  room : ltb w wireRoom ≡ false
+  on : B.macrosOn b ≡ true
+  ready : b .awaiting ≡ false
+  given : isAccepted (sentOf (b .table) x) ≡ true
 
-  item-read : (p : P.Printer) → Agreed b p → (k : Key) → badItem k ≡ false
-      → ReadAs (textData b k) p (readAll p (itemSent b k .wire))
-  unfolding textData itemSent itemData
-  item-read p a (Char c) h = text-read p a (itemData (B.handlingNow b) (Char c))
-  item-read p a Line h = text-read p a (itemData (B.handlingNow b) Line)
-  item-read p a (Command c) h =
-      rw (readAll-steps p (command c)) (command-read p c (a .between) (iac-stands b iac p a) (not-false (plainCommand c) h))
+module _ (b : B.Bulletin) where
+  item-allowed : (k : Key) (w : ℕ) → Allowed b (item k w) → ItemAllowed b k w
+  item-allowed k w h =
+      let front = leb wireRoom w && isItem k in
+      let both = both-left front (not (b .awaiting)) h in
+      record {
+        room = le-ltb w wireRoom (leb-true wireRoom w (both-left (leb wireRoom w) (isItem k) both));
+        good = good-item k (both-right (leb wireRoom w) (isItem k) both);
+        ready = not-true (b .awaiting) (both-right front (not (b .awaiting)) h);
+      }
 
-  -- an item may start a wait, on which agreement does not turn
-  item-back : (p : P.Printer) → Agreed b p → (k : Key) → badItem k ≡ false
-      → ReadBack (itemSent b k .wire) (textData b k) (itemSent b k .state) p
-  unfolding itemSent
-  item-back p a k h =
-      let r = item-read p a k h in
-      let q = agreed-after b _ p _ r a in
-      record { read = r; agreed = record { macros = q .macros; between = q .between; same = q .same; none = q .none } }
+  use-allowed : (x w : ℕ) → Allowed b (macroUse x w) → UseAllowed b x w
+  use-allowed x w h =
+      let has = isAccepted (sentOf (b .table) x) in
+      let two = leb wireRoom w && B.macrosOn b in
+      let three = both-left (two && not (b .awaiting)) has h in
+      let front = both-left two (not (b .awaiting)) three in
+      record {
+        room = le-ltb w wireRoom (leb-true wireRoom w (both-left (leb wireRoom w) (B.macrosOn b) front));
+        on = both-right (leb wireRoom w) (B.macrosOn b) front;
+        ready = not-true (b .awaiting) (both-right two (not (b .awaiting)) three);
+        given = both-right (two && not (b .awaiting)) has h;
+      }
 
-  use-back : (p : P.Printer) → Agreed b p → (x : ℕ) → B.macrosOn b ≡ true → isAccepted (sentOf (b .table) x) ≡ true
-      → ReadBack (x ∷ []) (useData b x) b p
-  unfolding useData
-  use-back p a x m h =
-      let r = macro-read-back b p a m x (acceptedText (sentOf (b .table) x)) (accepted-is (sentOf (b .table) x) h) in
-      record { read = r; agreed = agreed-after b _ p _ r a }
+  -- an allowed one is not refused
+  item-done : (k : Key) (w : ℕ) → ItemAllowed b k w → textCall b k w ≡ B.done (itemSent b k)
+  unfolding textCall guarded
+  item-done k w h = rw (h .room, h .good, h .ready)
 
-  -- an answer: a refusal sends nothing
-  answer-read : (p : P.Printer) → Agreed b p → (gs : List Guard) (d : B.Did) (bytes : List ℕ) (given : B.Answer)
-      → Judged gs (B.refused b) (B.done d) given → (NoneHolds gs → ReadBack (d .wire) bytes (d .state) p)
-      → ReadBack (given .did .wire) (pick (eqb (codeNumber (given .code)) 0) bytes []) (given .did .state) p
-  answer-read p a gs d bytes given (stopped c n e) f = rw (e, n) (silence b p a)
-  answer-read p a gs d bytes given (passed h e) f = rw e (f h)
+  use-done : (x w : ℕ) → UseAllowed b x w → useCall b x w ≡ B.done (B.sends (x ∷ []) b)
+  unfolding useCall guarded
+  use-done x w h = rw (h .room, h .on, h .ready, h .given)
 
-  sent-read : (p : P.Printer) → Agreed b p → (c : Sending)
-      → ReadBack (answer b c .did .wire) (sentData b c) (answer b c .did .state) p
+  pub allowed-done : (c : Sending) → Allowed b c → answer b c ≡ B.done (does b c)
+  unfolding BS.called
+  allowed-done (item k w) h = item-done k w (item-allowed k w h)
+  allowed-done (macroUse x w) h = use-done x w (use-allowed x w h)
+
+  -- and only an allowed one is not refused: a refusal sends nothing and leaves the state
+  stopped-did : (gs : List Guard) (d : B.Did) (given : B.Answer) (allowed : Bool) → Judged gs (B.refused b) (B.done d) given
+      → (NoneHolds gs → allowed ≡ true) → allowed ≡ false → given .did ≡ B.nothing b
+  stopped-did gs d given allowed (stopped c n e) f off = rw e
+  stopped-did gs d given allowed (passed h e) f off = absurd (false≢true (sym off ∙ f h))
+
+  pub refused-did : (c : Sending) → isAllowed b c ≡ false → answer b c .did ≡ B.nothing b
   unfolding BS.called textCall useCall
-  sent-read p a (item k w) =
-      answer-read p a _ (itemSent b k) (textData b k) (textCall b k w)
+  refused-did (item k w) off =
+      stopped-did _ (itemSent b k) (textCall b k w) (isAllowed b (item k w))
       (judged _ (B.refused b) (B.done (itemSent b k)) (refl, (refl, (refl, tt))))
-      (λ h. item-back p a k (h .1 .0))
-  sent-read p a (macroUse x w) =
-      answer-read p a _ (B.sends (x ∷ []) b) (useData b x) (useCall b x w)
+      (λ h. rw (le-leb wireRoom w (ltb-false w wireRoom (h .0)), not-bad k (h .1 .0), h .1 .1 .0)) off
+  refused-did (macroUse x w) off =
+      stopped-did _ (B.sends (x ∷ []) b) (useCall b x w) (isAllowed b (macroUse x w))
       (judged _ (B.refused b) (B.done (B.sends (x ∷ []) b)) (refl, (refl, (refl, (refl, tt)))))
-      (λ h. use-back p a x (not-false (B.macrosOn b) (h .1 .0)) (not-false (isAccepted (sentOf (b .table) x)) (h .1 .1 .1 .0)))
+      (λ h. rw (
+        le-leb wireRoom w (ltb-false w wireRoom (h .0)),
+        not-false (B.macrosOn b) (h .1 .0),
+        h .1 .1 .0,
+        not-false (isAccepted (sentOf (b .table) x)) (h .1 .1 .1 .0),
+      )) off
 
-readAll-append : (w v : List ℕ) (p : P.Printer) → readAll p (w ++ v) ≡ P.followed (readAll p w) (readAll (readAll p w .state) v)
-readAll-append w v p =
-    rw (readAll-steps p (w ++ v), readAll-steps p w, readAll-steps (steps networkRead p w .state) v)
-    (steps-append networkRead w v p)
+  module _ (iac : IacFree b) (p : P.Printer) (a : Agreed b p) where
+    item-read : (k : Key) → badCommand k ≡ false → Reads (textData b k) p (steps reads p (itemSent b k .wire))
+    unfolding textData itemSent itemData
+    item-read (Char c) h = text-read b iac p a (itemData (B.handlingNow b) (Char c))
+    item-read Line h = text-read b iac p a (itemData (B.handlingNow b) Line)
+    item-read (Command c) h = command-read p c (a .between) (iac-stands b iac p a) (not-false (plainCommand c) h)
 
-then-back : (w v x y : List ℕ) (b c : B.Bulletin) (p : P.Printer) → ReadBack w x b p → ReadBack v y c (readAll p w .state)
-    → ReadBack (w ++ v) (x ++ y) c p
-then-back w v x y b c p r s = record {
-  read = rw (readAll-append w v p) (then-read (r .read) (s .read));
-  agreed = rw (readAll-append w v p) (s .agreed);
-}
+    use-read : (x w : ℕ) → UseAllowed b x w → Reads (useData b x) p (steps reads p (x ∷ []))
+    unfolding useData
+    use-read x w h =
+        macro-read p x (acceptedText (sentOf (b .table) x)) (a .macros (h .on)) (a .between)
+        (a .same (h .on) x (acceptedText (sentOf (b .table) x)) (accepted-is (sentOf (b .table) x) (h .given)))
 
-all-back : (b : B.Bulletin) → IacFree b → (p : P.Printer) → Agreed b p → (cs : List Sending)
-    → ReadBack (allWire b cs) (allData b cs) (stateAfter b (map asCall cs)) p
-unfolding joined BS.answersFrom allData stateAfter
-all-back b iac p a [] = silence b p a
-all-back b iac p a (c ∷ cs) =
+    does-read : (c : Sending) → Allowed b c → Reads (dataOf b c) p (steps reads p (does b c .wire))
+    does-read (item k w) h = item-read k (item-allowed k w h .good)
+    does-read (macroUse x w) h = use-read x w (use-allowed x w h)
+
+    -- one of them, allowed or not
+    pub sent-read : (c : Sending) → Reads (sentData b c) p (steps reads p (answer b c .did .wire))
+    unfolding steps
+    sent-read c =
+        chosen (λ bytes. Reads bytes p (steps reads p (answer b c .did .wire))) (isAllowed b c)
+        (λ h. rw (allowed-done c h) (does-read c h))
+        (λ h. rw (refused-did c h) (none-read p (p .reader) (a .between) (λ i. i)))
+
+pub does-sends : (b : B.Bulletin) (c : Sending) → OnlySends (B.done (does b c))
+unfolding itemSent
+does-sends b (item k w) = record { code = refl; note = refl; host = refl }
+does-sends b (macroUse x w) = record { code = refl; note = refl; host = refl }
+
+-- an item may start a wait; sides and table stay
+does-same : (b : B.Bulletin) (c : Sending) → SameTable b (does b c .state)
+unfolding itemSent
+does-same b (item k w) = record { sides = refl; table = refl }
+does-same b (macroUse x w) = record { sides = refl; table = refl }
+
+pub sent-same : (b : B.Bulletin) (c : Sending) → SameTable b (answer b c .did .state)
+sent-same b c = go (isAllowed b c) refl
+  where
+    go : (t : Bool) → isAllowed b c ≡ t → SameTable b (answer b c .did .state)
+    go true h = rw (allowed-done b c h) (does-same b c)
+    go false h = rw (refused-did b c h) (record { sides = refl; table = refl })
+
+pub all-same : (b : B.Bulletin) (cs : List Sending) → SameTable b (bulletinAfter b (answers b cs))
+unfolding BS.answersFrom bulletinAfter
+all-same b [] = record { sides = refl; table = refl }
+all-same b (c ∷ cs) =
+    let s = sent-same b c in
+    let t = all-same (answer b c .did .state) cs in
+    record { sides = t .sides ∙ s .sides; table = t .table ∙ s .table }
+
+-- a list of them
+pub all-sent : (b : B.Bulletin) → IacFree b → (p : P.Printer) → Agreed b p → (cs : List Sending)
+    → Reads (allData b cs) p (steps reads p (allWire b cs))
+unfolding BS.answersFrom joined allData steps
+all-sent b iac p a [] = none-read p (p .reader) (a .between) (λ i. i)
+all-sent b iac p a (c ∷ cs) =
     let d = answer b c .did in
     let r = sent-read b iac p a c in
-    then-back _ _ _ _ _ _ p r (all-back (d .state) (called-free b (asCall c) iac) (readAll p (d .wire) .state) (r .agreed) cs)
-
-pub fresh-agree : FreshAgree
-fresh-agree = record {
-  macros = refl;
-  between = refl;
-  same = λ x t h. absurd (free-alone t (sym (getD-uniform 256 x free) ∙ h));
-  none = λ x h. getD-uniform 256 x plain;
-}
-
-pub each-read-back : EachReadBack
-each-read-back session p a c h = rw h at (sent-read (reached session) (iac-stays-free session) p a c)
-
-pub all-read-back : AllReadBack
-all-read-back session p a cs = all-back (reached session) (iac-stays-free session) p a cs
+    let q = steps reads p (d .wire) .state in
+    rw (steps-append reads (d .wire) (allWire (d .state) cs) p)
+    (then-read r (all-sent (d .state) (called-free b (asCall c) iac) q (agreed-after (sent-same b c) (r .state) a) cs))

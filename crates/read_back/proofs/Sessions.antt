@@ -1,7 +1,7 @@
 -- No call of the bulletin end makes 255 other than free.
 use mathlib.Core.Path.{_≡_, refl, sym, subst, _∙_}
 use mathlib.Core.Bool.{Bool, true, false, false≢true}
-use mathlib.Core.List.{List, [], _∷_}
+use mathlib.Core.List.{List, [], _∷_, List·Memᴰ, List·Memᴰ·head, List·Memᴰ·tail}
 use Prim.Native.Nat.{ℕ}
 use lib.ListN.{set, getD-replicate}
 use lib.Seq.{set-getD, getD-set-other}
@@ -16,19 +16,17 @@ use Rattle.negotiation.specs.Table.{isYes}
 use Rattle.bodies.specs.declared.MacroReply.{MacroReply}
 use Rattle.bodies.specs.declared.MacroReply.the-variants.{Accept, Refuse, PleaseCancel}
 use Rattle.definitions.specs.Sending.{Definitions, Sent, free, noDefinitions, sentOf, isAccepted, onAccept, onRefuse, defining, sentFor}
-use Rattle.bulletin.specs.State.{Bulletin, fresh, withTable, Did}
+use Rattle.bulletin.specs.State.{Bulletin, fresh, withTable, Did, Answer}
 use Rattle.bulletin.specs.Network.{sideMoved, replied}
 use Rattle.bulletin.specs.Calls.{defineGuards}
-use Rattle.bulletin.specs.Session.{Call, called}
-use Rattle.read_back.specs.ReadBack.{IacStaysFree, stateAfter}
+use Rattle.bulletin.specs.Session.{Call, called, answersFrom}
+use Rattle.read_back.specs.Ends.{bulletinAfter}
+use Rattle.read_back.specs.ReadBack.{IacFree, IacStaysFree}
 use Rattle.codes.proofs.Guards.{NoneHolds}
-use Rattle.bulletin.proofs.Invariant.{Steps, call-kept}
+use Rattle.bulletin.proofs.Invariant.{Steps, call-kept, answers-kept}
 
 abbrev FreeIn : Definitions → Type 0
 FreeIn t = sentOf t IAC ≡ free
-
-abbrev pub IacFree : Bulletin → Type 0
-IacFree s = FreeIn (s .table)
 
 none-free : FreeIn noDefinitions
 none-free = getD-replicate 256 255 free free (lit< tt)
@@ -59,7 +57,7 @@ unfolding defining
 replies-free s (Accept x) h = set-free (s .table) x (onAccept (sentOf (s .table) x)) h (λ (e : x ≡ IAC). rw (e, h))
 replies-free s (Refuse x) h = set-free (s .table) x (onRefuse (sentOf (s .table) x)) h (λ (e : x ≡ IAC). rw (e, h))
 replies-free s (PleaseCancel x) h =
-    chosen (λ (d : Did). IacFree (d .state)) (isAccepted (sentOf (s .table) x))
+    chosen FreeIn (isAccepted (sentOf (s .table) x))
     (λ k. set-free (s .table) x (sentFor x (x ∷ [])) h (λ (e : x ≡ IAC). absurd (false≢true (rw (e, h) at k))))
     (λ k. h)
 
@@ -81,10 +79,13 @@ free-steps = record {
 pub called-free : (s : Bulletin) (c : Call) → IacFree s → IacFree (called s c .did .state)
 called-free s c h = call-kept IacFree free-steps s c h
 
-after-free : (s : Bulletin) (cs : List Call) → IacFree s → IacFree (stateAfter s cs)
-unfolding stateAfter
-after-free s [] h = h
-after-free s (c ∷ cs) h = after-free (called s c .did .state) cs (called-free s c h)
+-- what the first state has and every answer leaves, the last state has
+after-kept : (P : Bulletin → Type 0) (s : Bulletin) (given : List Answer) → P s → ((a : Answer) → List·Memᴰ a given → P (a .did .state))
+    → P (bulletinAfter s given)
+unfolding bulletinAfter
+after-kept P s [] h k = h
+after-kept P s (a ∷ given) h k = after-kept P (a .did .state) given (k a (List·Memᴰ·head refl)) (λ x m. k x (List·Memᴰ·tail m))
 
 pub iac-stays-free : IacStaysFree
-iac-stays-free session = after-free fresh session none-free
+iac-stays-free session =
+    after-kept IacFree fresh (answersFrom fresh session) none-free (answers-kept IacFree free-steps fresh session none-free)

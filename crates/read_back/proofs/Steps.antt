@@ -1,16 +1,30 @@
--- Bytes read one after the other, by networkRead or by another rule for one byte.
+-- Bytes read one after the other, each by a network call with room, or by another rule for one byte.
 use mathlib.Core.Path.{_≡_, refl, sym}
 use mathlib.Core.Bool.{Bool, true, false}
 use mathlib.Core.List.{List, [], _∷_, _++_}
 use Prim.Native.Nat.{ℕ}
 use Rattle.lists.specs.Lists.{joined}
+use Rattle.codes.specs.Answers.{paperRoom, wireRoom}
+use Rattle.codes.specs.declared.Note.the-variants.{Clear}
 use Rattle.reader.specs.declared.Phase.the-variants.{Between}
 use Rattle.reader.specs.Reading.{Reader, idle}
 use Rattle.echo.specs.Control.{Echo}
 use Rattle.printer.specs.State.{Printer, Did, nothing, followed, withReader, rcteOn}
-use Rattle.printer.specs.Network.{networkRead, byteRead, bytesRead}
-use Rattle.read_back.specs.ReadBack.{readAll, ReadAs, echoAfter}
+use Rattle.printer.specs.Calls.{networkCall}
+use Rattle.read_back.specs.ReadBack.{OnlyHolds, echoAfter}
 use Rattle.printer.proofs.Steps.{followed-assoc, followed-nothing}
+
+-- one network byte, with the least buffers
+abbrev pub reads : Printer → ℕ → Did
+reads p x = networkCall p x paperRoom wireRoom .did
+
+-- a step, or several put together, that reads exactly this data
+pub record Reads (bytes : List ℕ) (p : Printer) (d : Did) : Type 0 where
+  pub note : d .note ≡ Clear
+  pub paper : d .paper ≡ bytes
+  pub wire : d .wire ≡ []
+  pub taken : d .taken ≡ []
+  pub state : OnlyHolds bytes p (d .state)
 
 echo-after : (rcte : Bool) (x y : List ℕ) (e : Echo) → echoAfter rcte y (echoAfter rcte x e) ≡ echoAfter rcte (x ++ y) e
 echo-after rcte [] y e = refl
@@ -19,32 +33,32 @@ echo-after true (a ∷ x) (b ∷ y) e = refl
 echo-after false (a ∷ x) (b ∷ y) e = refl
 
 pub none-read : (p : Printer) (r : Reader) → r .phase ≡ Between → (p .reader ≡ idle → r ≡ idle)
-    → ReadAs [] p (nothing (withReader p r))
+    → Reads [] p (nothing (withReader p r))
 none-read p r h still = record {
   note = refl;
   paper = refl;
   wire = refl;
   taken = refl;
-  sides = refl;
-  between = h;
-  reader = still;
-  table = refl;
-  echo = refl;
-  values = refl;
+  state = record { sides = refl; between = h; reader = still; table = refl; echo = refl; values = refl };
 }
 
-pub then-read : {x y : List ℕ} {p : Printer} {d e : Did} → ReadAs x p d → ReadAs y (d .state) e → ReadAs (x ++ y) p (followed d e)
-then-read {x} {y} {p} {d} {e} h k = record {
-  note = rw (h .note) (k .note);
-  paper = rw (h .paper, k .paper);
-  wire = rw (h .wire) (k .wire);
-  taken = rw (h .taken) (k .taken);
+then-holds : {x y : List ℕ} {p q r : Printer} → OnlyHolds x p q → OnlyHolds y q r → OnlyHolds (x ++ y) p r
+then-holds {x} {y} {p} {q} {r} h k = record {
   sides = rw (k .sides) (h .sides);
   between = k .between;
   reader = λ (i : p .reader ≡ idle). k .reader (h .reader i);
   table = rw (k .table) (h .table);
   echo = rw (k .echo, h .sides, h .echo) (echo-after (rcteOn p) x y (p .echo));
   values = rw (k .values) (h .values);
+}
+
+pub then-read : {x y : List ℕ} {p : Printer} {d e : Did} → Reads x p d → Reads y (d .state) e → Reads (x ++ y) p (followed d e)
+then-read h k = record {
+  note = rw (h .note) (k .note);
+  paper = rw (h .paper, k .paper);
+  wire = rw (h .wire) (k .wire);
+  taken = rw (h .taken) (k .taken);
+  state = then-holds (h .state) (k .state);
 }
 
 module _ (f : Printer → ℕ → Did) where
@@ -68,22 +82,12 @@ module _ (f : Printer → ℕ → Did) where
 
   -- data of which each byte is read back, in a state that lasts as it is read
   module _ (enc : ℕ → List ℕ) (Ready : Printer → Type 0) (between : (p : Printer) → Ready p → p .reader .phase ≡ Between)
-      (lasts : (x : List ℕ) (p : Printer) (d : Did) → ReadAs x p d → Ready p → Ready (d .state))
-      (each : (p : Printer) → Ready p → (b : ℕ) → ReadAs (b ∷ []) p (steps p (enc b))) where
-    pub all-read : (bs : List ℕ) (p : Printer) → Ready p → ReadAs bs p (steps p (joined enc bs))
+      (lasts : (x : List ℕ) (p q : Printer) → OnlyHolds x p q → Ready p → Ready q)
+      (each : (p : Printer) → Ready p → (b : ℕ) → Reads (b ∷ []) p (steps p (enc b))) where
+    pub all-read : (bs : List ℕ) (p : Printer) → Ready p → Reads bs p (steps p (joined enc bs))
     unfolding joined steps
     all-read [] p r = none-read p (p .reader) (between p r) (λ i. i)
     all-read (b ∷ bs) p r =
         let h = each p r b in
-        let k = all-read bs (steps p (enc b) .state) (lasts (b ∷ []) p (steps p (enc b)) h r) in
+        let k = all-read bs (steps p (enc b) .state) (lasts (b ∷ []) p (steps p (enc b) .state) (h .state) r) in
         rw (steps-append (enc b) (joined enc bs) p) (then-read h k)
-
-pub readAll-steps : (p : Printer) (xs : List ℕ) → readAll p xs ≡ steps networkRead p xs
-unfolding readAll steps
-readAll-steps p [] = refl
-readAll-steps p (x ∷ xs) = rw (readAll-steps (networkRead p x .state) xs)
-
-pub bytesRead-steps : (p : Printer) (xs : List ℕ) → bytesRead p xs ≡ steps byteRead p xs
-unfolding bytesRead steps
-bytesRead-steps p [] = refl
-bytesRead-steps p (x ∷ xs) = rw (bytesRead-steps (byteRead p x .state) xs)

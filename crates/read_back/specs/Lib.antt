@@ -1,2 +1,5 @@
+pub mod Ends
+pub mod TextSent
 pub mod ReadBack
 pub mod Defined
+pub mod Incident

@@ -1,125 +1,131 @@
 -- Text that the bulletin end sends is read back by the printer end as the same data.
 use mathlib.Core.Path.{_≡_}
 use mathlib.Core.Bool.{Bool, true}
-use mathlib.Core.List.{List, [], _∷_, _++_, map}
+use mathlib.Core.List.{List, [], _∷_, List·Memᴰ}
 use Prim.Native.Nat.{ℕ}
-use lib.Dec.{eqb}
 use Rattle.lists.specs.Choice.{pick}
-use Rattle.lists.specs.Lists.{joined}
-use Rattle.codes.specs.Answers.{codeNumber}
 use Rattle.codes.specs.Telnet.{IAC}
 use Rattle.codes.specs.declared.Code.the-variants.{Done}
 use Rattle.codes.specs.declared.Note.the-variants.{Clear}
-use Rattle.keys.specs.declared.Key.{Key}
 use Rattle.reader.specs.declared.Phase.the-variants.{Between}
 use Rattle.reader.specs.Reading.{idle}
 use Rattle.macros.specs.Texts.{entryOf, plain, text}
 use Rattle.echo.specs.Control.{Echo, holding}
 use Rattle.definitions.specs.Sending.{sentOf, free, accepted, stored}
 use Rattle.printer.specs.State as P
-use Rattle.printer.specs.Network.{networkRead}
+use Rattle.printer.specs.Session as PS
 use Rattle.bulletin.specs.State as B
-use Rattle.bulletin.specs.Calls.{textData, useData}
 use Rattle.bulletin.specs.Session as BS
+use Rattle.read_back.specs.Ends.{printerAnswers, printerPaper, printerAfter, bulletinAfter, reached, NetworkCalls}
+use Rattle.read_back.specs.TextSent.{Sending, Allowed, dataOf, answer, answers, allData, allWire}
 
--- Both ends have BM in force or neither has, and the printer end is reading no command. Its table has the bulletin end's
--- text for every accepted byte, and none for a free one; of a pending or refused byte nothing is asked.
-pub record Agreed (b : B.Bulletin) (p : P.Printer) : Type 0 where
+-- The premise of demand 2, in its words. BM is in force at both ends or at neither, and the printer end is between commands. Its table
+-- has the same text, in its stored form, for each byte accepted at the bulletin end, and none for each byte free there. Of a byte that
+-- is pending or refused there nothing is asked.
+pub record Demanded (b : B.Bulletin) (p : P.Printer) : Type 0 where
   pub macros : B.macrosOn b ≡ P.macrosOn p
-  pub between : p .reader .phase ≡ Between
+  pub betweenCommands : p .reader .phase ≡ Between
   pub same : (x : ℕ) (t : List ℕ) → sentOf (b .table) x ≡ accepted t → entryOf (p .table) x ≡ text (stored t)
   pub none : (x : ℕ) → sentOf (b .table) x ≡ free → entryOf (p .table) x ≡ plain
 
--- wire bytes read one after the other, each as a network byte; the first note counts, so it is Clear exactly if each byte's is
-unfoldable pub readAll : P.Printer → List ℕ → P.Did
-readAll p [] = P.nothing p
-readAll p (x ∷ xs) = let d = networkRead p x in P.followed d (readAll (d .state) xs)
+-- The weaker premise that the claims rest on. Tables are compared only as far as the ends go by them: the bulletin end uses texts
+-- while it has BM in force, and the printer end replaces bytes while it has. So BM may be in force at the printer end alone, as it is
+-- while the bulletin end waits for its request to be agreed.
+pub record Agreed (b : B.Bulletin) (p : P.Printer) : Type 0 where
+  pub macros : B.macrosOn b ≡ true → P.macrosOn p ≡ true
+  pub between : p .reader .phase ≡ Between
+  pub same : B.macrosOn b ≡ true → (x : ℕ) (t : List ℕ) → sentOf (b .table) x ≡ accepted t → entryOf (p .table) x ≡ text (stored t)
+  pub none : P.macrosOn p ≡ true → (x : ℕ) → sentOf (B.definitionsNow b) x ≡ free → entryOf (p .table) x ≡ plain
+
+-- 255 goes out doubled, never as LITERAL: the printer end must have no text for it
+abbrev pub IacFree : B.Bulletin → Type 0
+IacFree b = sentOf (b .table) IAC ≡ free
+
+-- an answer of the printer end that only prints: code 0, no note, no reply, no key taken up; so all of its paper is data
+pub record OnlyPrints (a : P.Answer) : Type 0 where
+  pub code : a .code ≡ Done
+  pub note : a .did .note ≡ Clear
+  pub wire : a .did .wire ≡ []
+  pub taken : a .did .taken ≡ []
 
 -- data holds under RCTE; where there is none the echo stays
 abbrev pub echoAfter : Bool → List ℕ → Echo → Echo
 echoAfter rcte [] e = e
 echoAfter rcte (x ∷ xs) e = pick rcte (holding e) e
 
--- read as exactly this data: it is the paper, with no note, no reply and no key taken up, so that all of the paper is data.
--- The reader is between commands again, and still idle if it was. Of the rest of the state only the hold changes.
-pub record ReadAs (bytes : List ℕ) (p : P.Printer) (d : P.Did) : Type 0 where
-  pub note : d .note ≡ Clear
-  pub paper : d .paper ≡ bytes
-  pub wire : d .wire ≡ []
-  pub taken : d .taken ≡ []
-  pub sides : d .state .sides ≡ p .sides
-  pub between : d .state .reader .phase ≡ Between
-  pub reader : p .reader ≡ idle → d .state .reader ≡ idle
-  pub table : d .state .table ≡ p .table
-  pub echo : d .state .echo ≡ echoAfter (P.rcteOn p) bytes (p .echo)
-  pub values : d .state .values ≡ p .values
+-- q is p behind this data. The reader is between commands again, and still idle if it was; of the rest only the hold changes.
+pub record OnlyHolds (bytes : List ℕ) (p q : P.Printer) : Type 0 where
+  pub sides : q .sides ≡ p .sides
+  pub between : q .reader .phase ≡ Between
+  pub reader : p .reader ≡ idle → q .reader ≡ idle
+  pub table : q .table ≡ p .table
+  pub echo : q .echo ≡ echoAfter (P.rcteOn p) bytes (p .echo)
+  pub values : q .values ≡ p .values
 
--- and the ends agree again, the bulletin end in the state that its sending left
-pub record ReadBack (wire bytes : List ℕ) (b : B.Bulletin) (p : P.Printer) : Type 0 where
-  pub read : ReadAs bytes p (readAll p wire)
-  pub agreed : Agreed b (readAll p wire .state)
+-- the printer end's answers from the state p, as it reads exactly this data
+pub record ReadAs (bytes : List ℕ) (p : P.Printer) (given : List P.Answer) : Type 0 where
+  pub each : (a : P.Answer) → List·Memᴰ a given → OnlyPrints a
+  pub paper : printerPaper given ≡ bytes
+  pub state : OnlyHolds bytes p (printerAfter p given)
 
--- what text goes out by: a text item, or a use of a macro; the wire buffer's size last
-pub data Sending : Type 0 where
-  item : Key → (wire : ℕ) → Sending
-  macroUse : (byte wire : ℕ) → Sending
+-- these calls read the data, and behind them the premise holds again, of the bulletin end b
+pub record ReadBack (Premise : B.Bulletin → P.Printer → Type 0) (bytes : List ℕ) (b : B.Bulletin) (p : P.Printer) (calls : List PS.Call) : Type 0 where
+  pub read : ReadAs bytes p (printerAnswers p calls)
+  pub again : Premise b (printerAfter p (printerAnswers p calls))
 
-abbrev pub asCall : Sending → BS.Call
-asCall (item k w) = BS.text k w
-asCall (macroUse x w) = BS.useMacro x w
+-- an answer of the bulletin end that only sends: code 0, no note, nothing for the host
+pub record OnlySends (a : B.Answer) : Type 0 where
+  pub code : a .code ≡ Done
+  pub note : a .did .note ≡ Clear
+  pub host : a .did .host ≡ []
 
-abbrev pub answer : B.Bulletin → Sending → B.Answer
-answer b c = BS.called b (asCall c)
+-- One text item or use of a macro that is allowed. Assumed: any two states that agree, 255 free. Promised: it is not refused, its
+-- bytes are read as its data in whatever buffers code 1 allows, and the ends agree again. Ruled out: an end that refuses, prints
+-- nothing, or handles its first byte alone; a macro's byte that prints another text than the accepted one.
+abbrev pub EachReadBack : Type 0
+EachReadBack =
+    (b : B.Bulletin) (p : P.Printer) → IacFree b → Agreed b p
+    → (c : Sending) → Allowed b c
+    → (calls : List PS.Call) → NetworkCalls (answer b c .did .wire) calls
+    → OnlySends (answer b c) × ReadBack Agreed (dataOf b c) (answer b c .did .state) p calls
 
--- the data that it stands for
-abbrev pub dataOf : B.Bulletin → Sending → List ℕ
-dataOf b (item k w) = textData b k
-dataOf b (macroUse x w) = useData b x
+-- Any list of them, refused ones included, on the same premise. Promised: the papers of all calls are the data of those that are
+-- allowed, in order. As every first part of a list is a list, the ends agree throughout. Ruled out: text that is lost, doubled, or
+-- sent although it is refused; a state that no longer fits the other end's after some item.
+abbrev pub AllReadBack : Type 0
+AllReadBack =
+    (b : B.Bulletin) (p : P.Printer) → IacFree b → Agreed b p
+    → (cs : List Sending) (calls : List PS.Call) → NetworkCalls (allWire b cs) calls
+    → ReadBack Agreed (allData b cs) (bulletinAfter b (answers b cs)) p calls
 
--- a refused one sends none
-abbrev pub sentData : B.Bulletin → Sending → List ℕ
-sentData b c = pick (eqb (codeNumber (answer b c .code)) 0) (dataOf b c) []
-
-unfoldable pub allData : B.Bulletin → List Sending → List ℕ
-allData b [] = []
-allData b (c ∷ cs) = sentData b c ++ allData (answer b c .did .state) cs
-
-abbrev pub allWire : B.Bulletin → List Sending → List ℕ
-allWire b cs = joined (λ a. a .did .wire) (BS.answersFrom b (map asCall cs))
-
--- the state that calls lead to, and the bulletin end after a session
-unfoldable pub stateAfter : B.Bulletin → List BS.Call → B.Bulletin
-stateAfter b [] = b
-stateAfter b (c ∷ cs) = stateAfter (BS.called b c .did .state) cs
-
-abbrev pub reached : List BS.Call → B.Bulletin
-reached cs = stateAfter B.fresh cs
-
--- no session defines 255: it stays free
-abbrev pub IacStaysFree : Type 0
-IacStaysFree = (session : List BS.Call) → sentOf (reached session .table) IAC ≡ free
-
--- two fresh ends agree
-abbrev pub FreshAgree : Type 0
-FreshAgree = Agreed B.fresh P.fresh
-
--- a macro's byte, bare on the wire, is read as the text that was accepted for it
+-- A macro's byte, bare on the wire. Assumed: two states that agree, BM in force at the bulletin end, the byte accepted there with
+-- this text. Promised: it is read as the text as it was given to DEFINE, its 255s single. Ruled out: an old text under that byte.
 abbrev pub MacroReadBack : Type 0
 MacroReadBack =
     (b : B.Bulletin) (p : P.Printer) → Agreed b p → B.macrosOn b ≡ true
     → (x : ℕ) (t : List ℕ) → sentOf (b .table) x ≡ accepted t
-    → ReadAs t p (readAll p (x ∷ []))
+    → (calls : List PS.Call) → NetworkCalls (x ∷ []) calls
+    → ReadAs t p (printerAnswers p calls)
 
--- after any session, one text item or use of a macro that is not refused
-abbrev pub EachReadBack : Type 0
-EachReadBack =
-    (session : List BS.Call) (p : P.Printer) → Agreed (reached session) p
-    → (c : Sending) → answer (reached session) c .code ≡ Done
-    → ReadBack (answer (reached session) c .did .wire) (dataOf (reached session) c) (answer (reached session) c .did .state) p
+-- Of every session: it leaves 255 free. That is what EachReadBack and AllReadBack assume beside agreement. Ruled out: a session that
+-- defines 255.
+abbrev pub IacStaysFree : Type 0
+IacStaysFree = (session : List BS.Call) → IacFree (reached session)
 
--- after any session, any list of them, refused ones included; as every first part of a list is a list, the ends agree throughout
-abbrev pub AllReadBack : Type 0
-AllReadBack =
-    (session : List BS.Call) (p : P.Printer) → Agreed (reached session) p
-    → (cs : List Sending)
-    → ReadBack (allWire (reached session) cs) (allData (reached session) cs) (stateAfter (reached session) (map asCall cs)) p
+-- The demand's premise is enough, of any two states: what the claims promise of ends that agree, they promise of those that the demand
+-- speaks of.
+abbrev pub DemandedAgree : Type 0
+DemandedAgree = (b : B.Bulletin) (p : P.Printer) → Demanded b p → Agreed b p
+
+-- Two fresh ends meet it. Defined.antt and Incident.antt have ends that meet it with a macro accepted, and with one refused.
+abbrev pub FreshDemanded : Type 0
+FreshDemanded = Demanded B.fresh P.fresh
+
+-- Demand 2 as it is worded. Assumed: any session of the bulletin end, and any state of the printer end that meets the demand's
+-- premise with it. (255 is then free.) Promised: all text then sent, by whatever list of items and uses, is read back as the same
+-- data, and the premise is met again. It rules out what AllReadBack does.
+abbrev pub TextReadBack : Type 0
+TextReadBack =
+    (session : List BS.Call) (p : P.Printer) → Demanded (reached session) p
+    → (cs : List Sending) (calls : List PS.Call) → NetworkCalls (allWire (reached session) cs) calls
+    → ReadBack Demanded (allData (reached session) cs) (bulletinAfter (reached session) (answers (reached session) cs)) p calls

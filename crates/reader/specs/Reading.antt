@@ -6,6 +6,7 @@ use lib.ListN.{length}
 use lib.Dec.{ltb, eqb}
 use Rattle.lists.specs.Choice.{pick}
 use Rattle.codes.specs.Telnet.{IAC, SB, SE, plainCommand}
+use Rattle.codes.specs.declared.Verb.{Verb}
 use Rattle.codes.specs.declared.Verb.the-variants.{Will, Wont, Do, Dont}
 use Rattle.reader.specs.declared.Phase.{Phase}
 use Rattle.reader.specs.declared.Phase.the-variants.{Between, AfterIac, AfterVerb, InBody, InBodyAfterIac}
@@ -87,3 +88,15 @@ unfoldable pub byOption : {D : Type 0} → Bool → List ℕ → D → (ℕ → 
 byOption true body unreadable handled = unreadable
 byOption false [] unreadable handled = unreadable
 byOption false (option ∷ rest) unreadable handled = handled option
+
+-- an item by what an end does with it
+abbrev pub itemBy : {D : Type 0} → (nothing : D) → (ℕ → D) → (Verb → ℕ → D) → (bodyEnd stray : D) → Item → D
+itemBy nothing dataRead negotiated bodyEnd stray Nothing = nothing
+itemBy nothing dataRead negotiated bodyEnd stray (Data b) = dataRead b
+itemBy nothing dataRead negotiated bodyEnd stray (Negotiated v option) = negotiated v option
+itemBy nothing dataRead negotiated bodyEnd stray BodyEnd = bodyEnd
+itemBy nothing dataRead negotiated bodyEnd stray StrayCommand = stray
+
+-- a byte read by an end: the item that it completes, handled in the state that has the reader as the byte left it
+abbrev pub byteBy : {S D : Type 0} → (S → Reader → S) → (S → Item → D) → S → Read → D
+byteBy withReader handled s r = handled (withReader s (r .reader)) (r .item)

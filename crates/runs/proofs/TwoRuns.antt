@@ -8,7 +8,8 @@ use Rattle.lists.specs.Buffers.{Wrote}
 use Rattle.printer.specs.State.{Answer}
 use Rattle.secrecy.specs.TwoSessions.{Each, SameSeen, SameSent, SameTails}
 use Rattle.secrecy.proofs.Sessions.{two-sessions}
-use Rattle.runs.specs.Runs.{Made, callsOf, Beside, AsRuled}
+use Rattle.runs.specs.Chains.{Beside}
+use Rattle.runs.specs.Runs.{Made, callsOf, AsRuled}
 use Rattle.runs.specs.TwoRuns.{SameShown, SameSize, ProgramTwoSessions}
 use Rattle.runs.proofs.Session.{run-is-session}
 use Rattle.runs.proofs.Determined.{count-is-waiting}

@@ -4,7 +4,8 @@ use mathlib.Core.List.{List}
 use Rattle.printer.specs.Calls.{waitingCount}
 use Rattle.printer.specs.Kept.{viewPrinter, CleanPrinter, Whole}
 use Rattle.printer.specs.declared.Printer.{Printer}
-use Rattle.runs.specs.Runs.{Made, callsOf, RunFromFresh, Beside}
+use Rattle.runs.specs.Chains.{Beside}
+use Rattle.runs.specs.Runs.{Made, callsOf, RunFromFresh}
 
 -- the count of waiting keys in the struct is their number
 abbrev pub CountIsWaiting : Type 0

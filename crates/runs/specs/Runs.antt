@@ -1,6 +1,6 @@
 -- A run of the program: calls on a printer end from a fresh one, each handed the state that the last one returned.
 use mathlib.Core.Path.{_≡_}
-use mathlib.Core.List.{List, [], _∷_, map}
+use mathlib.Core.List.{List, map}
 use Prim.Native.Nat.{ℕ}
 use lib.ListN.{length}
 use Rattle.lists.specs.Buffers.{Wrote}
@@ -11,6 +11,7 @@ use Rattle.printer.specs.Session.{Call, called, session}
 use Rattle.printer.specs.Kept.{viewPrinter, CleanPrinter, Whole, MetAnswer, MetFresh}
 use Rattle.printer.specs.declared.Printer as code-printer
 use Rattle.printer.specs.declared.Answer as code-answer
+use Rattle.runs.specs.Chains.{Chain, Beside}
 
 -- a call's arguments besides the state and the two lent buffers
 pub data Args : Type 0 where
@@ -45,21 +46,18 @@ callsOf ms = map callOf ms
 abbrev pub Gave : code-printer.Printer → Made → Type 0
 Gave s m = MetAnswer (called (viewPrinter s) (callOf m)) s (m .paper) (m .paperAfter) (m .wire) (m .wireAfter) (m .answer)
 
--- calls from state s on; a refused call hands its state on like any other
-pub data Run : code-printer.Printer → List Made → Type 0 where
-  none : {s : code-printer.Printer} → Run s []
-  more : {s : code-printer.Printer} {m : Made} {ms : List Made} → Gave s m → Run (m .answer .state) ms → Run s (m ∷ ms)
+abbrev pub after : Made → code-printer.Printer
+after m = m .answer .state
+
+-- calls from state s on
+abbrev pub Run : code-printer.Printer → List Made → Type 0
+Run s ms = Chain Gave after s ms
 
 -- a run from a fresh end
 pub record RunFromFresh (ms : List Made) : Type 0 where
   pub start : code-printer.Printer
   pub isFresh : MetFresh start
   pub run : Run start ms
-
--- two lists of one length, related one by one
-pub data Beside {X Y : Type 0} (R : X → Y → Type 0) : List X → List Y → Type 0 where
-  none : Beside R [] []
-  more : {x : X} {y : Y} {xs : List X} {ys : List Y} → R x y → Beside R xs ys → Beside R (x ∷ xs) (y ∷ ys)
 
 -- a call of the program gave the rule's answer: every field, every byte of both buffers, and nothing left behind in cells
 -- that are no longer used

@@ -6,7 +6,8 @@ use lib.ListN.{take, drop}
 use Rattle.printer.specs.Calls.{waitingCount}
 use Rattle.printer.specs.Kept.{viewPrinter}
 use Rattle.secrecy.specs.TwoSessions.{Agree, QuietIn, EvenIn}
-use Rattle.runs.specs.Runs.{Made, callsOf, RunFromFresh, Beside}
+use Rattle.runs.specs.Chains.{Beside}
+use Rattle.runs.specs.Runs.{Made, callsOf, RunFromFresh}
 
 -- the same code, note, paper bytes and number of waiting keys, in the view and as the struct counts them; equal paper buffers
 -- are still equal

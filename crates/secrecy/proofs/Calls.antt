@@ -4,23 +4,23 @@ use mathlib.Core.Bool.{Bool, true, false, _&&_}
 use mathlib.Core.List.{List, [], _∷_, _++_}
 use Prim.Native.Nat.{ℕ}
 use lib.ListN.{length, drop}
-use lib.Dec.{leb, eqb}
+use lib.Dec.{leb}
 use lib.Seq.{drop-append-seam}
 use Rattle.lists.specs.Buffers.{Wrote}
 use Rattle.lists.specs.Choice.{pick}
-use Rattle.codes.specs.Answers.{codeNumber, noRoom, when, guarded}
+use Rattle.codes.specs.Answers.{noRoom, when, isDone, guarded}
 use Rattle.codes.specs.declared.Code.{Code}
 use Rattle.codes.specs.declared.Code.the-variants.{Done, NoRoom, QueueFull, BadCommand}
 use Rattle.codes.specs.declared.Note.{Note}
 use Rattle.codes.specs.declared.Note.the-variants.{Clear}
 use Rattle.keys.specs.declared.Key.{Key}
-use Rattle.keys.specs.Keys.{keyWire}
+use Rattle.keys.specs.Keys.{badCommand, keyWire}
 use Rattle.negotiation.specs.declared.Sides.{Sides}
 use Rattle.negotiation.specs.Table.{isYes}
 use Rattle.echo.specs.Taking.{sentPaper}
 use Rattle.echo.specs.Control.{Echo, Echoed, waitRoom, isFull, pressed}
 use Rattle.printer.specs.State.{Printer, withEcho, rcteOn, echoOn, echoing, Answer, done, refused}
-use Rattle.printer.specs.Calls.{badKey, keySent, keyTyped, keyCall}
+use Rattle.printer.specs.Calls.{keySent, keyTyped, keyCall}
 use Rattle.printer.specs.Session.{Call, called}
 use Rattle.printer.specs.Session.Call.{network, key, ask, suggest}
 use Rattle.secrecy.specs.TwoSessions.{Typed, accepts, AllQuiet, SameSeen, SameTails, SameSent}
@@ -154,23 +154,20 @@ Keeping n m ms s t c d =
 
 -- the sizes of the lent buffers matter only for code 1
 key-kept : (n : Later) (m : Bool) {ms : List Bool} (s : Printer) (k l : Key) (p w p′ w′ : ℕ) (e f : Echo)
-    → Beside m k l → noRoom p w ≡ noRoom p′ w′ → badKey k ≡ badKey l → Waits (rcteOn s) e → Related ms e f
+    → Beside m k l → noRoom p w ≡ noRoom p′ w′ → badCommand k ≡ badCommand l → Waits (rcteOn s) e → Related ms e f
     → Keeping n m ms (withEcho s e) (withEcho s f) (key k p w) (key l p′ w′)
 unfolding called keyCall guarded
 key-kept n m {ms} s k l p w p′ w′ e f i r j v a =
     let q = same-full a in
-    subst (λ y. Keeps (given e k (noRoom p w) (badKey k) (rcteOn s && isFull e)) y) (λ x. given f l (r x) (j x) (rcteOn s && q x))
-    (go (noRoom p w) (badKey k) (rcteOn s && isFull e))
+    subst (λ y. Keeps (given e k (noRoom p w) (badCommand k) (rcteOn s && isFull e)) y) (λ x. given f l (r x) (j x) (rcteOn s && q x))
+    (go (noRoom p w) (badCommand k) (rcteOn s && isFull e))
   where
     given : Echo → Key → Bool → Bool → Bool → Answer
     given e k b c d =
         guarded (when b NoRoom ∷ when c BadCommand ∷ when d QueueFull ∷ []) (refused (withEcho s e)) (done (keyTyped (withEcho s e) k))
 
-    isDone : Answer → Bool
-    isDone x = eqb (codeNumber (x .code)) 0
-
     Keeps : Answer → Answer → Type 0
-    Keeps x y = QuietCall n ms m (isDone x) (isDone y) x y → Kept n (marksWith ms (isDone x) m) (e .gathered) (f .gathered) x y
+    Keeps x y = QuietCall n ms m (isDone (x .code)) (isDone (y .code)) x y → Kept n (marksWith ms (isDone (x .code)) m) (e .gathered) (f .gathered) x y
 
     go : (b c d : Bool) → Keeps (given e k b c d) (given f l b c d)
     go true c d h = unchanged n s NoRoom a h
@@ -178,7 +175,7 @@ key-kept n m {ms} s k l p w p′ w′ e f i r j v a =
     go false false true h = unchanged n s QueueFull a h
     go false false false h = typed-kept n m s k l e f i v a h
 
-good-key : {k : Key} → Typed k → badKey k ≡ false
+good-key : {k : Key} → Typed k → badCommand k ≡ false
 good-key (char b) = refl
 good-key line = refl
 

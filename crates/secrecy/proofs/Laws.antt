@@ -3,17 +3,17 @@ use mathlib.Core.Path.{_≡_, refl, sym, ap, subst, _∙_}
 use mathlib.Core.Bool.{Bool, true, false, _&&_}
 use mathlib.Core.List.{List, [], _∷_, _++_, map-append, append-nil, append-assoc}
 use Prim.Native.Nat.{ℕ}
-use lib.Dec.{eqb}
 use Rattle.lists.specs.Choice.{pick}
 use Rattle.lists.specs.Lists.{joined}
-use Rattle.codes.specs.Answers.{codeNumber, noRoom, when, guarded}
+use Rattle.codes.specs.Answers.{noRoom, when, isDone, guarded}
 use Rattle.codes.specs.declared.Code.the-variants.{NoRoom, QueueFull, BadCommand}
 use Rattle.keys.specs.declared.Key.{Key}
+use Rattle.keys.specs.Keys.{badCommand}
 use Rattle.negotiation.specs.declared.Sides.{Sides}
 use Rattle.negotiation.specs.Apart.{Apart}
 use Rattle.echo.specs.Control.{Echo, isFull, pressed}
 use Rattle.printer.specs.State.{Printer, fresh, rcteOn, echoing, Answer, done, refused}
-use Rattle.printer.specs.Calls.{badKey, keySent, keyTyped, keyCall}
+use Rattle.printer.specs.Calls.{keySent, keyTyped, keyCall}
 use Rattle.printer.specs.Session.{Call, called, answersFrom}
 use Rattle.printer.specs.Session.Call.{network, key, ask, suggest}
 use Rattle.secrecy.specs.TwoSessions.{accepts, ofAccepted, takeUps}
@@ -54,12 +54,12 @@ key-typed s k w = go (rcteOn s) refl
 key-onward : (s : Printer) (k : Key) (p w : ℕ) → Held s
     → Onward s (pick (accepts (key k p w) (called s (key k p w))) (k ∷ []) []) (called s (key k p w))
 unfolding called keyCall guarded
-key-onward s k p w h = go (noRoom p w) (badKey k) (rcteOn s && isFull (s .echo))
+key-onward s k p w h = go (noRoom p w) (badCommand k) (rcteOn s && isFull (s .echo))
   where
     given : Bool → Bool → Bool → Answer
     given b c d = guarded (when b NoRoom ∷ when c BadCommand ∷ when d QueueFull ∷ []) (refused s) (done (keyTyped s k))
 
-    go : (b c d : Bool) → Onward s (pick (eqb (codeNumber (given b c d .code)) 0) (k ∷ []) []) (given b c d)
+    go : (b c d : Bool) → Onward s (pick (isDone (given b c d .code)) (k ∷ []) []) (given b c d)
     go true c d = record { apart = λ a. a; waits = h; order = sym (append-nil (s .echo .waiting)) }
     go false true d = record { apart = λ a. a; waits = h; order = sym (append-nil (s .echo .waiting)) }
     go false false true = record { apart = λ a. a; waits = h; order = sym (append-nil (s .echo .waiting)) }

@@ -1,47 +1,50 @@
 -- Every call but a key call is planned: only its acts touch the state of RCTE.
 use mathlib.Core.Path.{_≡_, refl, sym, ap, subst, _∙_}
-use mathlib.Core.Bool.{Bool, true, false, _&&_, not}
+use mathlib.Core.Bool.{Bool, true, false, _&&_}
 use mathlib.Core.List.{List, [], _∷_, _++_}
 use Prim.Native.Nat.{ℕ}
 use lib.ListN.{drop}
-use lib.Dec.{eqb}
 use Rattle.lists.specs.Choice.{pick}
 use Rattle.codes.specs.Answers.{noRoom, firstNote, Guard, when, guarded}
-use Rattle.codes.specs.Telnet.{RCTE, NAOCRD, BM, DS, DR, whoseOf, enables}
+use Rattle.codes.specs.Telnet.{DS, DR, whoseOf, enables}
 use Rattle.codes.specs.declared.Code.{Code}
-use Rattle.codes.specs.declared.Code.the-variants.{Done, NoRoom, AlreadySo, NotInForce, BadValue}
+use Rattle.codes.specs.declared.Code.the-variants.{Done, NoRoom}
 use Rattle.codes.specs.declared.Note.{Note}
-use Rattle.codes.specs.declared.Note.the-variants.{Clear, Unreadable, Inactive, OtherOption, Stray}
+use Rattle.codes.specs.declared.Note.the-variants.{Clear, Unreadable, Stray}
 use Rattle.codes.specs.declared.Verb.{Verb}
+use Rattle.negotiation.specs.declared.End.{End}
 use Rattle.negotiation.specs.declared.Standing.{Standing}
+use Rattle.negotiation.specs.declared.Standing.the-variants.{No}
 use Rattle.negotiation.specs.declared.Side.{Side}
 use Rattle.negotiation.specs.declared.Side.the-variants.{Echo, BulletinSga, Rcte, Macro, PrinterSga, Returns, Uncarried}
 use Rattle.negotiation.specs.declared.Sides.{Sides}
-use Rattle.negotiation.specs.declared.Asked.{Asked}
-use Rattle.negotiation.specs.declared.Asked.the-variants.{Already, Moves}
-use Rattle.negotiation.specs.Table.{isYes, stillOn, heard, asked}
-use Rattle.negotiation.specs.Carried.{printerSide, moved, isCarried, free, standing, clashes, declined, replyBytes, heardBy, askedTo, askedBy, askedWhose, askedSide, askedEnable, askGuards}
+use Rattle.negotiation.specs.declared.Asking.{Asking}
+use Rattle.negotiation.specs.declared.Turn.{Turn}
+use Rattle.negotiation.specs.Table.{isYes, stillOn, heard}
+use Rattle.negotiation.specs.Carried.{moved, free, standing, declined, replyBytes, askedBy, askedWhose, askedSide, askedEnable}
 use Rattle.negotiation.specs.Apart.{Apart}
 use Rattle.reader.specs.declared.Item.{Item}
 use Rattle.reader.specs.declared.Item.the-variants.{Nothing, Data, Negotiated, BodyEnd, StrayCommand}
-use Rattle.reader.specs.Reading.{Reader, idle, read, byOption, isBetween}
+use Rattle.reader.specs.Reading.{Reader, idle, read, isBetween}
 use Rattle.bodies.specs.declared.RcteBody.{RcteBody}
 use Rattle.bodies.specs.declared.MacroBody.{MacroBody}
 use Rattle.bodies.specs.declared.MacroCommand.the-variants.{Define, Literal}
 use Rattle.bodies.specs.declared.ValueBody.{ValueBody}
 use Rattle.bodies.specs.RcteBodies.{rcteBody}
 use Rattle.bodies.specs.MacroBodies.{macroBody, defineRest}
-use Rattle.bodies.specs.ValueBodies.{valueBody, isBadValue}
+use Rattle.bodies.specs.ValueBodies.{valueBody}
 use Rattle.macros.specs.Texts.{Entry, plain, text, noMacros, entryOf, judged, afterDefine, verdictBytes}
-use Rattle.disposition.specs.Returns.{unspoken, withDs, withDr, suggestion}
+use Rattle.disposition.specs.Returns.{unspoken, withDs, withDr, suggestion, suggestGuards}
 use Rattle.echo.specs.Control.{Echo as EchoState, holding}
-use Rattle.printer.specs.State.{Printer, withSides, withReader, withTable, withEcho, withValues, rcteOn, echoOn, returnsOn, macrosOn, Did, nothing, notes, printing, behind, followed, Answer, done, refused}
-use Rattle.printer.specs.Network.{dataRead, rcteMoved, sideMoved, replied, sideHeard, negotiationRead, rcteRead, macroRead, valueRead, optionRead, bodyRead, itemRead, byteRead, bytesRead, entryRead, networkRead}
+use Rattle.printer.specs.State.{Printer, withSides, withReader, withTable, withEcho, withValues, rcteOn, echoOn, returnsOn, macrosOn, Did, printing, behind, followed, Answer, done, refused}
+use Rattle.printer.specs.Network.{dataRead, rcteMoved, sideMoved, replied, negotiationRead, rcteRead, macroRead, valueRead, bodyHandled, bodyRead, itemRead, byteRead, bytesRead, entryRead, networkRead}
 use Rattle.printer.specs.Calls.{networkCall, askCall, suggestCall}
 use Rattle.printer.specs.Session.{called}
 use Rattle.printer.specs.Session.Call.{network, ask, suggest}
-use Rattle.codes.proofs.Guards.{NoneHolds}
 use Rattle.negotiation.proofs.Apart.{heard-keeps-apart, asked-keeps-apart}
+use Rattle.negotiation.proofs.Outcomes.{heard-cases, asking-cases}
+use Rattle.subnegotiation.specs.declared.Checked.{Checked}
+use Rattle.subnegotiation.proofs.Outcomes.{checked-cases}
 use Rattle.secrecy.proofs.Acts.{acted, didOf, Planned}
 use Rattle.secrecy.proofs.Acts.Acts.{puts, holds, starts, ends, commands, both}
 
@@ -94,13 +97,13 @@ side-moved s PrinterSga q reply k = moved-step s (withSides s (moved (s .sides) 
 side-moved s Uncarried q reply k = plain-step s s refl Clear [] (reply ++ [])
 
 negotiation-read : (s : Printer) (v : Verb) (option : ℕ) → Planned (s .sides) (λ e. negotiationRead (withEcho s e) v option)
-unfolding negotiationRead sideHeard heardBy
+unfolding negotiationRead
 negotiation-read s v option =
-    let side = printerSide (whoseOf v) option in
-    let h = heard (enables v) (free (s .sides) side) (standing (s .sides) side) in
-    either (isCarried side)
-    (side-moved s side (h .next) (replyBytes (whoseOf v) (h .reply) option) (heard-keeps-apart (s .sides) side (enables v)))
-    (plain-step s s refl Clear [] (replyBytes (whoseOf v) (declined (enables v)) option))
+    heard-cases (λ (t : Turn). Planned (s .sides) (λ e. replied (withEcho s e) (t .side) (t .next) (replyBytes (t .whose) (t .reply) option)))
+    End.Printer (s .sides) v option
+    (λ side. let h = heard (enables v) (free (s .sides) side) (standing (s .sides) side) in
+    side-moved s side (h .next) (replyBytes (whoseOf v) (h .reply) option) (heard-keeps-apart (s .sides) side (enables v)))
+    (side-moved s Uncarried No (replyBytes (whoseOf v) (declined (enables v)) option) (λ a. a))
 
 rcte-read : (s : Printer) (b : RcteBody) → rcteOn s ≡ true → Planned (s .sides) (λ e. rcteRead (withEcho s e) b)
 unfolding acted
@@ -118,27 +121,15 @@ value-read : (s : Printer) (b : ValueBody) → Planned (s .sides) (λ e. valueRe
 value-read s ValueBody.Unreadable = plain-step s s refl Unreadable [] []
 value-read s (ValueBody.Readable v) = plain-step s (withValues s (withDs (s .values) v)) refl Clear [] []
 
-option-read : (s : Printer) (option : ℕ) (body : List ℕ) → Planned (s .sides) (λ e. optionRead (withEcho s e) option body)
-unfolding optionRead
-option-read s option body =
-    either (eqb option RCTE) (go (rcteOn s) refl)
-    (either (eqb option NAOCRD) (either (returnsOn s) (value-read s (valueBody DS body)) (says Inactive))
-    (either (eqb option BM) (either (macrosOn s) (macro-read s body (macroBody body)) (says Inactive))
-    (says OtherOption)))
-  where
-    says : (n : Note) → Planned (s .sides) (λ e. notes n (withEcho s e))
-    says n = plain-step s s refl n [] []
-
-    go : (on : Bool) → rcteOn s ≡ on
-        → Planned (s .sides) (λ e. pick on (rcteRead (withEcho s e) (rcteBody body)) (notes Inactive (withEcho s e)))
-    go true p = rcte-read s (rcteBody body) p
-    go false p = says Inactive
-
 body-read : (s : Printer) (marred : Bool) (body : List ℕ) → Planned (s .sides) (λ e. bodyRead (withEcho s e) marred body)
-unfolding bodyRead byOption
-body-read s true body = plain-step s s refl Unreadable [] []
-body-read s false [] = plain-step s s refl Unreadable [] []
-body-read s false (option ∷ rest) = option-read s option (option ∷ rest)
+unfolding bodyRead
+body-read s marred body =
+    checked-cases (λ (c : Checked). Planned (s .sides) (λ e. bodyHandled (withEcho s e) body c)) End.Printer (s .sides)
+    (λ n. plain-step s s refl n [] [])
+    (λ on. rcte-read s (rcteBody body) on)
+    (λ on. value-read s (valueBody DS body))
+    (λ on. macro-read s body (macroBody body))
+    marred body
 
 -- the state s has the reader as the byte found it, r as it left it
 item-read : (s : Printer) (r : Reader) (i : Item) → Planned (s .sides) (λ e. itemRead (withReader (withEcho s e) r) i)
@@ -188,44 +179,41 @@ pub record Answered (sides : Sides) (call : EchoState → Answer) : Type 0 where
   pub says : (e : EchoState) → call e .code ≡ code
   pub step : Planned sides (λ e. call e .did)
 
-guarded-step : (s : Printer) (gs : List Guard) {x : EchoState → Did} → (NoneHolds gs → Planned (s .sides) x)
-    → Answered (s .sides) (λ e. guarded gs (refused (withEcho s e)) (done (x e)))
+does-step : {sides : Sides} {x : EchoState → Did} → Planned sides x → Answered sides (λ e. done (x e))
+does-step p = record { code = Done; says = λ e. refl; step = p }
+
+refuses-step : (s : Printer) (c : Code) → Answered (s .sides) (λ e. refused (withEcho s e) c)
+refuses-step s c = record { code = c; says = λ e. refl; step = plain-step s s refl Clear [] [] }
+
+guarded-step : (s : Printer) (gs : List Guard) {x : EchoState → Answer} → Answered (s .sides) x
+    → Answered (s .sides) (λ e. guarded gs (refused (withEcho s e)) (x e))
 unfolding guarded
-guarded-step s [] p = record { code = Done; says = λ e. refl; step = p tt }
-guarded-step s (g ∷ gs) {x} p = go (g .holds) (λ h. guarded-step s gs (λ n. p (h, n)))
+guarded-step s [] p = p
+guarded-step s (g ∷ gs) {x} p = go (g .holds) (guarded-step s gs p)
   where
-    go : (b : Bool) → (b ≡ false → Answered (s .sides) (λ e. guarded gs (refused (withEcho s e)) (done (x e))))
-        → Answered (s .sides) (λ e. pick b (refused (withEcho s e) (g .code)) (guarded gs (refused (withEcho s e)) (done (x e))))
-    go true q = record { code = g .code; says = λ e. refl; step = plain-step s s refl Clear [] [] }
-    go false q = q refl
+    go : (b : Bool) {y : EchoState → Answer} → Answered (s .sides) y → Answered (s .sides) (λ e. pick b (refused (withEcho s e) (g .code)) (y e))
+    go true q = refuses-step s (g .code)
+    go false q = q
 
 pub network-call : (s : Printer) (b paper wire : ℕ) → Answered (s .sides) (λ e. called (withEcho s e) (network b paper wire))
 unfolding called networkCall
-network-call s b paper wire = guarded-step s (when (noRoom paper wire) NoRoom ∷ []) (λ n. network-read s b)
+network-call s b paper wire = guarded-step s (when (noRoom paper wire) NoRoom ∷ []) (does-step (network-read s b))
 
 pub ask-call : (s : Printer) (option way paper wire : ℕ) → Answered (s .sides) (λ e. called (withEcho s e) (ask option way paper wire))
-unfolding called askCall askedBy
+unfolding called askCall
 ask-call s option way paper wire =
-    let side = askedSide printerSide option way in
-    guarded-step s (when (noRoom paper wire) NoRoom ∷ askGuards (s .sides) side (askedEnable way))
-    (λ n. go side (n .1 .1 .0) (asked (askedEnable way) (standing (s .sides) side)) refl)
-  where
-    go : (side : Side) → clashes (s .sides) side (askedEnable way) ≡ false
-        → (a : Asked) → asked (askedEnable way) (standing (s .sides) side) ≡ a
-        → Planned (s .sides) (λ e. askedTo (s .sides) (askedWhose way) option side (askedEnable way)
-        (λ q reply. replied (withEcho s e) side q reply) (nothing (withEcho s e)) a)
-    go side c Already m = plain-step s s refl Clear [] []
-    go side c (Moves q r) m =
-        side-moved s side q (replyBytes (askedWhose way) r option)
-        (λ a. asked-keeps-apart (s .sides) side (askedEnable way) q r a c m)
+    let whose = askedWhose way in
+    let side = askedSide End.Printer option way in
+    let enable = askedEnable way in
+    guarded-step s (when (noRoom paper wire) NoRoom ∷ [])
+    (asking-cases
+    (λ (a : Asking). Answered (s .sides) (λ e. askedBy (refused (withEcho s e)) (λ q r. done (replied (withEcho s e) side q (replyBytes whose r option))) a))
+    (s .sides) side enable
+    (refuses-step s)
+    (λ q r c m. does-step (side-moved s side q (replyBytes whose r option) (λ a. asked-keeps-apart (s .sides) side enable q r a c m))))
 
 pub suggest-call : (s : Printer) (v paper wire : ℕ) → Answered (s .sides) (λ e. called (withEcho s e) (suggest v paper wire))
 unfolding called suggestCall
 suggest-call s v paper wire =
-    guarded-step s
-    (when (noRoom paper wire) NoRoom
-    ∷ when (not (returnsOn s)) NotInForce
-    ∷ when (isBadValue v) BadValue
-    ∷ when (eqb v (s .values .dr)) AlreadySo
-    ∷ [])
-    (λ n. plain-step s (withValues s (withDr (s .values) v)) refl Clear [] (suggestion DR v))
+    guarded-step s (when (noRoom paper wire) NoRoom ∷ suggestGuards (returnsOn s) (s .values .dr) v)
+    (does-step (plain-step s (withValues s (withDr (s .values) v)) refl Clear [] (suggestion DR v)))

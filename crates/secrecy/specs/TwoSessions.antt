@@ -4,11 +4,10 @@ use mathlib.Core.Bool.{Bool, true, false}
 use mathlib.Core.List.{List, [], _∷_, _++_}
 use Prim.Native.Nat.{ℕ}
 use lib.ListN.{length, drop}
-use lib.Dec.{eqb}
 use Rattle.lists.specs.Buffers.{Wrote}
 use Rattle.lists.specs.Choice.{pick}
 use Rattle.lists.specs.Lists.{joined}
-use Rattle.codes.specs.Answers.{codeNumber}
+use Rattle.codes.specs.Answers.{isDone}
 use Rattle.keys.specs.declared.Key.{Key}
 use Rattle.keys.specs.declared.Key.the-variants.{Char, Line}
 use Rattle.keys.specs.Keys.{keyWire}
@@ -35,7 +34,7 @@ pub data Agree : List Bool → List Call → List Call → Type 0 where
 -- a key is accepted by a key call with code 0
 abbrev pub accepts : Call → Answer → Bool
 accepts (network b p w) a = false
-accepts (key k p w) a = eqb (codeNumber (a .code)) 0
+accepts (key k p w) a = isDone (a .code)
 accepts (ask o y p w) a = false
 accepts (suggest v p w) a = false
 

@@ -33,9 +33,18 @@ foundAt tape at =
     pick (leb (length tape) at) End
     (pick (isWhole tape at && isKnown (tagAt tape at) (sizeAt tape at)) (fieldAt tape at) Bad)
 
--- a field's body: that part of the tape
+-- so many bytes of the tape from a place on
 unfoldable pub partOf : List ℕ → ℕ → ℕ → List ℕ
 partOf tape start size = take size (drop start tape)
+
+-- the body of the field that stands at a place: that part of the tape; empty where no field stands
+abbrev pub bodyOf : List ℕ → Found → List ℕ
+bodyOf tape End = []
+bodyOf tape Bad = []
+bodyOf tape (Field tag start size next) = partOf tape start size
+
+unfoldable pub bodyAt : List ℕ → ℕ → List ℕ
+bodyAt tape at = bodyOf tape (foundAt tape at)
 
 pub data Item : Type 0 where
   networkByte : ℕ → Item

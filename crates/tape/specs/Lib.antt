@@ -7,3 +7,4 @@ pub mod Steps
 pub mod ManySteps
 pub mod Numbers
 pub mod Kept
+pub mod Scanning

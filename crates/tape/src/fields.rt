@@ -2,7 +2,7 @@
 ghost use mathlib.Core.Path.{_≡_};
 ghost use Prim.Native.Nat.{_+_, _≤_};
 ghost use lib.ListN.{length};
-ghost use Rattle.tape.specs.Fields.{headSize, sizeAt, isKnown, foundAt, partOf};
+ghost use Rattle.tape.specs.Fields.{headSize, sizeAt, isKnown, foundAt, partOf, bodyAt};
 use super::ASKS;
 use super::Cursor;
 use super::Found;
@@ -63,8 +63,8 @@ pub fn found_at(tape: &[u8], c: Cursor) -> Found
     }
 }
 
-// A field's body: that part of the tape, or what there is of it where the tape is shorter.
-pub fn body_of(tape: &[u8], start: usize, size: usize) -> &[u8]
+// So many bytes of the tape from a place on, or what there is of them where the tape is shorter.
+pub fn part_of(tape: &[u8], start: usize, size: usize) -> &[u8]
     ensures { λ r. ⌜ now r ≡ partOf (now (tape .entry)) start size ⌝ }
 {
     if tape.len() <= start {
@@ -74,5 +74,17 @@ pub fn body_of(tape: &[u8], start: usize, size: usize) -> &[u8]
         &tape[start..start + size]
     } else {
         &tape[start..]
+    }
+}
+
+// The body of the field that stands at a place, as that part of the tape; empty where no field stands.
+pub fn body_at(tape: &[u8], at: usize) -> &[u8]
+    ensures { λ r. ⌜ now r ≡ bodyAt (now (tape .entry)) at ⌝ }
+{
+    let found = found_at(tape, Cursor { at });
+    match found {
+        Found::Field { start, size, .. } => part_of(tape, start, size),
+        Found::End => &tape[..0],
+        Found::Bad => &tape[..0],
     }
 }

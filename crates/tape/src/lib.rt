@@ -6,6 +6,7 @@ pub mod fields;
 mod items;
 mod lines;
 pub mod running;
+pub mod scanning;
 
 // The tags of fields: network bytes, key pairs, ask pairs.
 pub const NETWORK: u8 = 1;
@@ -29,6 +30,18 @@ pub enum Found {
     },
     End,
     Bad,
+}
+
+// A reader over the host's tape: the tape, and a place on it.
+pub struct TapeReader<'a> {
+    pub tape: &'a [u8],
+    pub at: usize,
+}
+
+// What stands at a place, and the place after it.
+pub struct Moved {
+    pub found: Found,
+    pub at: usize,
 }
 
 // A key pair: a key, or a pair that stands for none.

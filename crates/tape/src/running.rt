@@ -21,6 +21,7 @@ use super::Stepped;
 use super::fields;
 use super::items;
 use super::lines;
+use super::scanning;
 use codes::PAPER_ROOM;
 use codes::WIRE_ROOM;
 use printer::calls;
@@ -160,7 +161,7 @@ fn next_field(tape: &[u8], m: Machine, out: &mut [u8]) -> Stepped
     ensures { λ r. ⌜ MetGoing (fieldStep (viewMachine m) (foundAt (now (tape .entry)) (m .place .next))) m (now (out .entry)) (now (out .exit)) r ⌝ }
 {
     let place = m.place;
-    let found = fields::found_at(tape, Cursor { at: place.next });
+    let found = scanning::next_at(tape, place.next);
     match found {
         Found::End => Stepped {
             written: 0,
@@ -227,7 +228,7 @@ fn step(tape: &[u8], m: Machine, paper: &mut [u8], wire: &mut [u8], out: &mut [u
     if is_too_long(tape, place) {
         return refuse_tape(m, out);
     }
-    let rest = fields::body_of(tape, place.at, place.left);
+    let rest = fields::part_of(tape, place.at, place.left);
     if rest.len() < width(place.tag) {
         return next_field(tape, m, out);
     }

@@ -4,9 +4,10 @@ use Rattle.lists.specs.Lists.{sum, joined}
 use Rattle.codes.specs.Answers.{guarded}
 use Rattle.keys.specs.Keys.{classOf, inClasses, prints, keyPaper, keyWire}
 use Rattle.wire.specs.Frames.{coded, frame}
-use Rattle.negotiation.specs.Carried.{printerSide, clashes, askedSide, heardBy, askedBy}
+use Rattle.negotiation.specs.Carried.{printerSide, clashes, heardBy, askedSide, askingOf}
 use Rattle.negotiation.specs.Table.{heard, asked}
 use Rattle.reader.specs.Reading.{keeping, commandRead, bodyCommandRead, read, byOption}
+use Rattle.subnegotiation.specs.Checks.{optionChecked, checked}
 use Rattle.bodies.specs.MacroBodies.{macroBody}
 use Rattle.bodies.specs.RcteBodies.{rcteBody}
 use Rattle.bodies.specs.ValueBodies.{valueBody}
@@ -14,19 +15,19 @@ use Rattle.macros.specs.Texts.{total, defined, judged}
 use Rattle.echo.specs.Control.{isFull, pressed, released, commanded, ended}
 use Rattle.echo.specs.Taking.{isBreak, isSend, takenUp}
 use Rattle.disposition.specs.Returns.{handling}
-use Rattle.printer.specs.Calls.{networkCall, keyTyped, keyCall, askCall, suggestCall, returnsReport}
-use Rattle.printer.specs.Network.{dataRead, sideMoved, sideHeard, negotiationRead, optionRead, bodyRead, byteRead, bytesRead, networkRead}
+use Rattle.printer.specs.Calls.{networkCall, keyTyped, keyCall, askCall, suggestCall}
+use Rattle.printer.specs.Network.{dataRead, sideMoved, negotiationRead, bodyRead, byteRead, bytesRead, networkRead}
 use Rattle.printer.specs.Session.{called, answersFrom}
 use Rattle.tape.specs.Fields.{foundAt, partOf, pairs, itemsOf}
 use Rattle.tape.specs.Lines.{digits, hexByte, lineOf, shown, badTape}
 use Rattle.tape.specs.Running.{lentFor, pairOf, itemAnswer, itemsRun, fieldsRun, printed}
 
 unfoldable pub layerRules : Unit {0}
-unfolding oneOf sum joined guarded classOf inClasses prints keyPaper keyWire coded frame printerSide clashes askedSide heardBy askedBy heard asked keeping commandRead bodyCommandRead read byOption macroBody rcteBody valueBody total defined judged isFull pressed released commanded ended isBreak isSend takenUp handling
+unfolding oneOf sum joined guarded classOf inClasses prints keyPaper keyWire coded frame printerSide clashes heardBy askedSide askingOf heard asked keeping commandRead bodyCommandRead read byOption optionChecked checked macroBody rcteBody valueBody total defined judged isFull pressed released commanded ended isBreak isSend takenUp handling
 layerRules = tt
 
 unfoldable pub printerRules : Unit {0}
-unfolding layerRules networkCall keyTyped keyCall askCall suggestCall returnsReport dataRead sideMoved sideHeard negotiationRead optionRead bodyRead byteRead bytesRead networkRead called answersFrom
+unfolding layerRules networkCall keyTyped keyCall askCall suggestCall dataRead sideMoved negotiationRead bodyRead byteRead bytesRead networkRead called answersFrom
 printerRules = tt
 
 unfoldable pub tapeRules : Unit {0}

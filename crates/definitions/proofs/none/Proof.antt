@@ -4,9 +4,6 @@ use Rattle.definitions.proofs.Views.{none-view, none-clean}
 use borrow.Author.Needs.{needs}
 use Rattle.definitions.proofs.none.Statement.{statement}
 use Rattle.definitions.proofs.none.Tie as tie
-use Rattle.definitions.proofs.none.Reads as reads
-use Rattle.definitions.proofs.none.Lts as lts
-use Rattle.macros.proofs.empty.Reads as empty-reads
 
 empty-requires : tie.Need-empty-requires
 empty-requires c κs = search needs

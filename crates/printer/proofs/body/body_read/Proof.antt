@@ -1,40 +1,67 @@
-use Rattle.printer.proofs.Bodies.{body-end}
-use Rattle.printer.specs.Kept.{viewPrinter}
+use mathlib.Core.Path.{_≡_}
+use native.Mathlib.Omega.{arith}
+use lib.ListN.{length, length-take}
 use Rattle.reader.specs.Kept.{viewReader}
+use Rattle.printer.specs.Kept.{viewPrinter}
+use Rattle.printer.proofs.Bodies.{body-end}
 use borrow.Author.Needs.{needs}
 use Rattle.printer.proofs.body.body_read.Statement.{statement}
 use Rattle.printer.proofs.body.body_read.Tie as tie
-use Rattle.printer.proofs.body.body_read.Reads as reads
-use Rattle.printer.proofs.body.body_read.Lts as lts
-use Rattle.printer.proofs.body.kept_read.Reads as kept-read-reads
-use Rattle.reader.proofs.idle.Reads as idle-reads
 
--- src/body.rt:175:9
+body-long : (c : tie.Start) → length (c .args .s .reader .body) ≡ 260
+body-long c = search needs
+
+body-checked-requires : tie.Need-body-checked-requires
+body-checked-requires c κs = search needs
+
 idle-requires : tie.Need-idle-requires
 idle-requires c κs = search needs
 
--- src/body.rt:178:5
-kept-read-requires : tie.Need-kept-read-requires
-kept-read-requires c κs =
-    let start = c .before .before .before .before .before .before in
-    let idle = c .before .before .idle in
-    rw (body-end (viewPrinter (start .args .s)) (viewReader (idle .result)) (idle .ensures .view)) at (start .pre)
+body-len-requires : tie.Need-body-len-requires
+body-len-requires c κs = search needs
 
--- src/body.rt:169:1
+array-share-prefix-body : tie.Need-array-share-prefix-body
+array-share-prefix-body c =
+    let l = body-long (c .before .before .before .before .before .before .before .before) in
+    omega (arith, c .body-len .ensures)
+
+slice-aggregate-handled : tie.Need-slice-aggregate-handled
+slice-aggregate-handled c =
+    let l = body-long (c .before .before .before .before .before .before .before .before .before) in
+    simp length-take (omega (arith, c .before .body-len .ensures))
+
+handled-requires : tie.Need-handled-requires
+handled-requires c κs =
+    let checks = c .before .before .before .before .before .before in
+    let start = checks .before .before .before .before .before in
+    let idle = c .before .before .before .before .before .idle in
+    rw (body-end (viewPrinter (start .args .s)) (viewReader (idle .result)) (checks .body-checked .result) (idle .ensures .view) (checks .body-checked .ensures), ← c .before .before .before .body-len .ensures) at (start .pre)
+
 same-length : tie.Need-same-length
 same-length c = search needs
 
--- src/body.rt:169:1
 same-length-2 : tie.Need-same-length-2
 same-length-2 c = search needs
 
--- src/body.rt:169:1
 returns : tie.Need-returns
 returns c =
-    let e = c .before .before .before .before .kept-read .ensures in
-    rw (body-end (viewPrinter (c .before .before .before .before .before .before .before .before .before .before .before .args .s)) (viewReader (c .before .before .before .before .before .before .before .idle .result)) (c .before .before .before .before .before .before .before .idle .ensures .view))
-    (record { note = e .note; wrote = e .wrote; view = e .view; clean = λ k. e .clean (record { reader = c .before .before .before .before .before .before .before .idle .ensures .clean; table = k .table; echo = k .echo }) })
+    let checks = c .before .before .before .before .before .before .before .before .before .before .before in
+    let start = checks .before .before .before .before .before in
+    let idle = c .before .before .before .before .before .before .before .before .before .before .idle in
+    let e = c .before .before .before .before .handled .ensures in
+    rw (body-end (viewPrinter (start .args .s)) (viewReader (idle .result)) (checks .body-checked .result) (idle .ensures .view) (checks .body-checked .ensures), ← c .before .before .before .before .before .before .before .before .body-len .ensures)
+    (record { note = e .note; wrote = e .wrote; view = e .view; clean = λ k. e .clean (record { reader = idle .ensures .clean; table = k .table; echo = k .echo }) })
 
 pub body-read-spec : {M : Type 1} → statement M
 body-read-spec =
-    tie.close (tie.spec idle-requires kept-read-requires same-length same-length-2 returns)
+    tie.close
+    (tie.spec
+    body-checked-requires
+    idle-requires
+    body-len-requires
+    array-share-prefix-body
+    slice-aggregate-handled
+    handled-requires
+    same-length
+    same-length-2
+    returns)

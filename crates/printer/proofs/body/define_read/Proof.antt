@@ -8,26 +8,22 @@ use Rattle.printer.proofs.body.define_read.Lts as lts
 use Rattle.macros.proofs.define.Reads as define-reads
 use Rattle.macros.proofs.put_verdict.Reads as put-verdict-reads
 
--- src/body.rt:66:9
 define-requires : tie.Need-define-requires
 define-requires c κs = search needs
 
--- src/body.rt:69:9
 put-verdict-requires : tie.Need-put-verdict-requires
 put-verdict-requires c κs = rw (← c .before .before .define .ensures .verdict) at (c .before .before .before .before .before .before .pre)
 
--- src/body.rt:61:1
 same-length : tie.Need-same-length
 same-length c = search needs
 
--- src/body.rt:61:1
 returns : tie.Need-returns
 returns c =
     let d = c .before .before .before .before .before .define .ensures in
     record {
-      met = λ held. record {
+      met = λ paper. record {
         note = refl;
-        wrote = record { paper = wrote-none held; wire = rw (d .verdict) at (c .before .before .put-verdict .ensures) };
+        wrote = record { paper = wrote-none paper; wire = rw (d .verdict) at (c .before .before .put-verdict .ensures) };
         view = rw (d .table);
         clean = λ k. record { reader = k .reader; table = d .clean (k .table); echo = k .echo };
       };

@@ -14,47 +14,37 @@ use Rattle.printer.proofs.body.define_read.Reads as define-read-reads
 use Rattle.printer.proofs.moves.quiet.Reads as quiet-reads
 use Rattle.printer.proofs.network.data_read.Reads as data-read-reads
 
--- src/body.rt:108:40
 macro-body-requires : tie.Need-macro-body-requires
 macro-body-requires c κs = search needs
 
--- src/body.rt:108:29
 enum-known-command : tie.Need-enum-known-command
 enum-known-command c = search needs
 
--- src/body.rt:109:32
 enum-told : tie.Need-enum-told
 enum-told c = search needs
 
--- src/body.rt:109:9
 quiet-requires : tie.Need-quiet-requires
 quiet-requires c κs = search needs
 
--- src/body.rt:109:9
 returns : tie.Need-returns
 returns c = rw (sym (c .before .before .before .macro-body .ensures) ∙ c .before .enum-told .given .1, c .quiet .ensures) (met-quietly _ _ _ _ refl (λ k. k) .met _ _)
 
--- src/body.rt:112:30
 enum-known-command-2 : tie.Need-enum-known-command-2
 enum-known-command-2 c = search needs
 
--- src/body.rt:112:54
 sub-define-read : tie.Need-sub-define-read
 sub-define-read c =
     let macro-body = c .before .before .before .before .before .before .macro-body in
     omega (arith, readable-long _ _ (sym (macro-body .ensures) ∙ c .before .before .before .before .command .given .1 ∙ ap (λ (x : MacroCommand). MacroBody.Readable x) (c .before .command2 .given .1)))
 
--- src/body.rt:112:54
 part-define-read-start : tie.Need-part-define-read-start
 part-define-read-start c =
     let macro-body = c .before .before .before .before .before .before .macro-body in
     omega (arith, readable-long _ _ (sym (macro-body .ensures) ∙ c .before .before .before .before .command .given .1 ∙ ap (λ (x : MacroCommand). MacroBody.Readable x) (c .before .command2 .given .1)))
 
--- src/body.rt:112:54
 part-define-read-end : tie.Need-part-define-read-end
 part-define-read-end c = search needs
 
--- src/body.rt:112:36
 define-read-requires : tie.Need-define-read-requires
 define-read-requires c κs =
     let start = c .before .before .before .before .before .before .before .before .before .before .before .before in
@@ -62,11 +52,9 @@ define-read-requires c κs =
     let command = c .before .before .before .before .before .before .command in
     rw (rest-all (start .args .body .now) 3) (rw (sym (macro-body .ensures) ∙ command .given .1 ∙ ap (λ (x : MacroCommand). MacroBody.Readable x) (c .before .before .before .command2 .given .1)) at (start .pre .1))
 
--- src/body.rt:113:31
 enum-known-command-3 : tie.Need-enum-known-command-3
 enum-known-command-3 c = search needs
 
--- src/body.rt:113:37
 data-read-requires : tie.Need-data-read-requires
 data-read-requires c κs =
     let start = c .before .before .before .before .before .before .before .before .before .before .before in
@@ -74,11 +62,9 @@ data-read-requires c κs =
     let command = c .before .before .before .before .before .command in
     rw (sym (macro-body .ensures) ∙ command .given .1 ∙ ap (λ (x : MacroCommand). MacroBody.Readable x) (c .before .before .command3 .given .1)) at (start .pre .0)
 
--- src/body.rt:103:1
 same-length : tie.Need-same-length
 same-length c = search needs
 
--- src/body.rt:103:1
 returns-2 : tie.Need-returns-2
 returns-2 c =
     let start = c .before .before .before .before .before .before .before .before .before .before .before .before .before .before .before in
@@ -87,11 +73,9 @@ returns-2 c =
     let command2 = c .before .before .before .before .before .before .command2 in
     rw (sym (macro-body .ensures) ∙ command .given .1 ∙ ap (λ (x : MacroCommand). MacroBody.Readable x) (command2 .given .1)) (rw (rest-all (start .args .body .now) 3) at (c .before .before .define-read .ensures) .met _)
 
--- src/body.rt:103:1
 same-length-2 : tie.Need-same-length-2
 same-length-2 c = search needs
 
--- src/body.rt:103:1
 returns-3 : tie.Need-returns-3
 returns-3 c =
     let macro-body = c .before .before .before .before .before .before .before .before .before .before .macro-body in

@@ -9,42 +9,33 @@ use Rattle.bodies.proofs.rcte_body.Reads as rcte-body-reads
 use Rattle.echo.proofs.commanded.Reads as commanded-reads
 use Rattle.printer.proofs.moves.quiet.Reads as quiet-reads
 
--- src/body.rt:32:39
 rcte-body-requires : tie.Need-rcte-body-requires
 rcte-body-requires c κs = search needs
 
--- src/body.rt:32:28
 enum-known-command : tie.Need-enum-known-command
 enum-known-command c = search needs
 
--- src/body.rt:33:32
 enum-told : tie.Need-enum-told
 enum-told c = search needs
 
--- src/body.rt:33:9
 quiet-requires : tie.Need-quiet-requires
 quiet-requires c κs = search needs
 
--- src/body.rt:33:9
 returns : tie.Need-returns
 returns c = rw (sym (c .before .before .before .rcte-body .ensures) ∙ c .before .enum-told .given .1, c .quiet .ensures) (met-quietly _ _ _ _ refl (λ k. k) .met _ _)
 
--- src/body.rt:36:9
 commanded-requires : tie.Need-commanded-requires
 commanded-requires c κs =
     let start = c .before .before .before .before .before .before .before .before .before .before in
     let rcte-body = c .before .before .before .before .before .before .rcte-body in
     rw (sym (rcte-body .ensures) ∙ c .before .before .before .before .command .given .1) at (start .pre)
 
--- src/body.rt:27:1
 same-length : tie.Need-same-length
 same-length c = search needs
 
--- src/body.rt:27:1
 same-length-2 : tie.Need-same-length-2
 same-length-2 c = search needs
 
--- src/body.rt:27:1
 returns-2 : tie.Need-returns-2
 returns-2 c =
     let e = c .before .before .before .before .before .commanded .ensures in

@@ -8,23 +8,18 @@ use Rattle.printer.proofs.body.value_read.Lts as lts
 use Rattle.bodies.proofs.value_body.Reads as value-body-reads
 use Rattle.printer.proofs.moves.quiet.Reads as quiet-reads
 
--- src/body.rt:30:38
 value-body-requires : tie.Need-value-body-requires
 value-body-requires c κs = search needs
 
--- src/body.rt:30:29
 enum-known-value : tie.Need-enum-known-value
 enum-known-value c = search needs
 
--- src/body.rt:31:32
 enum-told : tie.Need-enum-told
 enum-told c = search needs
 
--- src/body.rt:31:9
 quiet-requires : tie.Need-quiet-requires
 quiet-requires c κs = search needs
 
--- src/body.rt:31:9
 returns : tie.Need-returns
 returns c =
     rw (sym (c .before .before .before .value-body .ensures) ∙ c .before .enum-told .given .1, c .quiet .ensures)
@@ -36,7 +31,6 @@ with-ds-requires c κs = search needs
 quiet-requires-2 : tie.Need-quiet-requires-2
 quiet-requires-2 c κs = search needs
 
--- src/body.rt:27:1
 returns-2 : tie.Need-returns-2
 returns-2 c =
     rw (sym (c .before .before .before .before .before .before .value-body .ensures) ∙ c .before .before .before .before .value .given .1, c .quiet2 .ensures, c .before .with-ds .ensures)

@@ -3,43 +3,33 @@ use Rattle.printer.specs.Calls.{keyTyped}
 use borrow.Author.Needs.{needs}
 use Rattle.printer.proofs.calls.key_typed.Statement.{statement}
 use Rattle.printer.proofs.calls.key_typed.Tie as tie
-use Rattle.printer.proofs.calls.key_typed.Reads as reads
-use Rattle.printer.proofs.calls.key_typed.Lts as lts
-use Rattle.echo.proofs.pressed.Reads as pressed-reads
-use Rattle.printer.proofs.on.echo.Reads as echo-reads
-use Rattle.printer.proofs.on.rcte.Reads as rcte-reads
 
--- src/calls.rt:129:8
-rcte-requires : tie.Need-rcte-requires
-rcte-requires c κs = search needs
+rcte-in-force-requires : tie.Need-rcte-in-force-requires
+rcte-in-force-requires c κs = search needs
 
--- src/calls.rt:130:13
 pressed-requires : tie.Need-pressed-requires
 unfolding keyTyped
 pressed-requires c κs =
     let at-if = c .before .before in
     let start = at-if .before .before .before .before .before .before in
-    let p = rw (sym (at-if .before .rcte .ensures) ∙ at-if .if1 .taken) at (start .pre) in
+    let p = rw (sym (at-if .before .rcte-in-force .ensures) ∙ at-if .if1 .taken) at (start .pre) in
     rw (p .0) (p .1)
 
--- src/calls.rt:134:9
 same-length : tie.Need-same-length
 same-length c = search needs
 
--- src/calls.rt:134:9
 same-length-2 : tie.Need-same-length-2
 same-length-2 c = search needs
 
--- src/calls.rt:134:9
 returns : tie.Need-returns
 unfolding keyTyped
 returns c =
     let at-call = c .before .before .before .before .before in
     let at-if = at-call .before .before .before in
     let start = at-if .before .before .before .before .before .before in
-    let p = rw (sym (at-if .before .rcte .ensures) ∙ at-if .if1 .taken) at (start .pre) in
+    let p = rw (sym (at-if .before .rcte-in-force .ensures) ∙ at-if .if1 .taken) at (start .pre) in
     let e = rw (p .0) at (at-call .pressed .ensures) in
-    rw (sym (at-if .before .rcte .ensures) ∙ at-if .if1 .taken)
+    rw (sym (at-if .before .rcte-in-force .ensures) ∙ at-if .if1 .taken)
     (record {
       note = refl;
       wrote = record { paper = e .paper; wire = e .wire };
@@ -47,28 +37,23 @@ returns c =
       clean = λ k. record { reader = k .reader; table = k .table; echo = e .clean (k .echo) };
     })
 
--- src/calls.rt:141:9
-echo-requires : tie.Need-echo-requires
-echo-requires c κs = search needs
+echo-in-force-requires : tie.Need-echo-in-force-requires
+echo-in-force-requires c κs = search needs
 
--- src/calls.rt:142:9
 send-key-requires : tie.Need-send-key-requires
 unfolding keyTyped
 send-key-requires c κs =
     let at-echo = c .before .before in
     let at-if = at-echo .before in
     let start = at-if .before .before .before .before .before .before in
-    rw (sym (at-if .before .rcte .ensures) ∙ at-if .if1 .left, ← at-echo .echo .ensures) at (start .pre .1)
+    rw (sym (at-if .before .rcte-in-force .ensures) ∙ at-if .if1 .left, ← at-echo .echo-in-force .ensures) at (start .pre .1)
 
--- src/calls.rt:121:1
 same-length-3 : tie.Need-same-length-3
 same-length-3 c = search needs
 
--- src/calls.rt:121:1
 same-length-4 : tie.Need-same-length-4
 same-length-4 c = search needs
 
--- src/calls.rt:121:1
 returns-2 : tie.Need-returns-2
 unfolding keyTyped
 returns-2 c =
@@ -76,19 +61,19 @@ returns-2 c =
     let at-echo = at-call .before .before .before in
     let at-if = at-echo .before in
     let w = at-call .send-key .ensures in
-    rw (sym (at-if .before .rcte .ensures) ∙ at-if .if1 .left, ← at-echo .echo .ensures)
+    rw (sym (at-if .before .rcte-in-force .ensures) ∙ at-if .if1 .left, ← at-echo .echo-in-force .ensures)
     (record { note = refl; wrote = record { paper = w .paper; wire = w .wire }; view = refl; clean = λ k. k })
 
 pub key-typed-spec : {M : Type 1} → statement M
 key-typed-spec =
     tie.close
     (tie.spec
-    rcte-requires
+    rcte-in-force-requires
     pressed-requires
     same-length
     same-length-2
     returns
-    echo-requires
+    echo-in-force-requires
     send-key-requires
     same-length-3
     same-length-4

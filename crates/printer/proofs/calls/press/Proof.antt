@@ -7,66 +7,48 @@ use Rattle.printer.proofs.Answering.{met-refused, met-done}
 use borrow.Author.Needs.{needs}
 use Rattle.printer.proofs.calls.press.Statement.{statement}
 use Rattle.printer.proofs.calls.press.Tie as tie
-use Rattle.printer.proofs.calls.press.Reads as reads
-use Rattle.printer.proofs.calls.press.Lts as lts
-use Rattle.printer.proofs.calls.bad_key.Reads as bad-key-reads
-use Rattle.printer.proofs.calls.done.Reads as done-reads
-use Rattle.printer.proofs.calls.key_typed.Reads as key-typed-reads
-use Rattle.codes.proofs.no_room.Reads as no-room-reads
-use Rattle.printer.proofs.calls.queue_full.Reads as queue-full-reads
-use Rattle.printer.proofs.calls.refused.Reads as refused-reads
 
--- src/calls.rt:154:8
 no-room-requires : tie.Need-no-room-requires
 no-room-requires c κs = search needs
 
--- src/calls.rt:155:9
 refused-requires : tie.Need-refused-requires
 refused-requires c κs = search needs
 
--- src/calls.rt:155:9
 returns : tie.Need-returns
 unfolding keyCall guarded
 returns c =
     let room = c .before in
     rw (sym (room .before .no-room .ensures) ∙ room .if1 .taken, c .refused .ensures) met-refused
 
--- src/calls.rt:157:8
-bad-key-requires : tie.Need-bad-key-requires
-bad-key-requires c κs = search needs
+bad-command-requires : tie.Need-bad-command-requires
+bad-command-requires c κs = search needs
 
--- src/calls.rt:158:9
 refused-requires-2 : tie.Need-refused-requires-2
 refused-requires-2 c κs = search needs
 
--- src/calls.rt:158:9
 returns-2 : tie.Need-returns-2
 unfolding keyCall guarded
 returns-2 c =
     let bad = c .before in
     let room = bad .before .before in
-    rw (sym (room .before .no-room .ensures) ∙ room .if1 .left, sym (bad .before .bad-key .ensures) ∙ bad .if2 .taken, c .refused2 .ensures)
+    rw (sym (room .before .no-room .ensures) ∙ room .if1 .left, sym (bad .before .bad-command .ensures) ∙ bad .if2 .taken, c .refused2 .ensures)
     met-refused
 
--- src/calls.rt:160:8
 queue-full-requires : tie.Need-queue-full-requires
 queue-full-requires c κs = search needs
 
--- src/calls.rt:161:9
 refused-requires-3 : tie.Need-refused-requires-3
 refused-requires-3 c κs = search needs
 
--- src/calls.rt:161:9
 returns-3 : tie.Need-returns-3
 unfolding keyCall guarded
 returns-3 c =
     let full = c .before in
     let bad = full .before .before in
     let room = bad .before .before in
-    rw (sym (room .before .no-room .ensures) ∙ room .if1 .left, sym (bad .before .bad-key .ensures) ∙ bad .if2 .left, sym (full .before .queue-full .ensures) ∙ full .if3 .taken, c .refused3 .ensures)
+    rw (sym (room .before .no-room .ensures) ∙ room .if1 .left, sym (bad .before .bad-command .ensures) ∙ bad .if2 .left, sym (full .before .queue-full .ensures) ∙ full .if3 .taken, c .refused3 .ensures)
     met-refused
 
--- src/calls.rt:163:9
 key-typed-requires : tie.Need-key-typed-requires
 key-typed-requires c κs =
     let full = c .before .before in
@@ -76,19 +58,15 @@ key-typed-requires c κs =
       room-for _ (a .paper .now) (a .wire .now) (sym (room .before .no-room .ensures) ∙ room .if1 .left) (key-fits _ (a .k) (sized-view (a .s))),
     )
 
--- src/calls.rt:164:5
 done-requires : tie.Need-done-requires
 done-requires c κs = search needs
 
--- src/calls.rt:151:1
 same-length : tie.Need-same-length
 same-length c = search needs
 
--- src/calls.rt:151:1
 same-length-2 : tie.Need-same-length-2
 same-length-2 c = search needs
 
--- src/calls.rt:151:1
 returns-4 : tie.Need-returns-4
 unfolding keyCall guarded
 returns-4 c =
@@ -96,7 +74,7 @@ returns-4 c =
     let full = typed .before .before .before in
     let bad = full .before .before in
     let room = bad .before .before in
-    rw (sym (room .before .no-room .ensures) ∙ room .if1 .left, sym (bad .before .bad-key .ensures) ∙ bad .if2 .left, sym (full .before .queue-full .ensures) ∙ full .if3 .left, c .done .ensures .0)
+    rw (sym (room .before .no-room .ensures) ∙ room .if1 .left, sym (bad .before .bad-command .ensures) ∙ bad .if2 .left, sym (full .before .queue-full .ensures) ∙ full .if3 .left, c .done .ensures .0)
     (met-done (typed .key-typed .ensures) (c .done .ensures .1))
 
 pub press-spec : {M : Type 1} → statement M
@@ -106,7 +84,7 @@ press-spec =
     no-room-requires
     refused-requires
     returns
-    bad-key-requires
+    bad-command-requires
     refused-requires-2
     returns-2
     queue-full-requires

@@ -1,11 +1,14 @@
-use mathlib.Core.Path.{refl, sym, ap, _∙_}
-use mathlib.Core.Bool.{not}
-use borrow.Author.Tests.{eq-eqb, ne-eqb}
+use mathlib.Core.Path.{_≡_, refl, sym, ap, _∙_}
+use mathlib.Core.Bool.{true, false}
+use borrow.Author.Tests.{not-true, not-false}
 use lib.Dec.{lit≤}
+use lib.ListN.{length}
 use Rattle.lists.proofs.Starts.{wrote-none}
-use Rattle.codes.specs.Answers.{guarded}
+use Rattle.codes.specs.Answers.{noRoom, when, isDone, refusalOf, guarded}
+use Rattle.codes.specs.declared.Code.the-variants.{NoRoom}
 use Rattle.codes.specs.Telnet.{DR}
-use Rattle.disposition.specs.Returns.{suggestion}
+use Rattle.codes.proofs.Guards.{guarded-refused, guarded-passed, guarded-done}
+use Rattle.disposition.specs.Returns.{suggestion, suggestGuards}
 use Rattle.printer.specs.State.{sends}
 use Rattle.printer.specs.Kept.{viewPrinter}
 use Rattle.printer.specs.Calls.{suggestCall}
@@ -15,82 +18,47 @@ use Rattle.printer.proofs.Answering.{met-refused}
 use borrow.Author.Needs.{needs}
 use Rattle.printer.proofs.calls.suggest.Statement.{statement}
 use Rattle.printer.proofs.calls.suggest.Tie as tie
-use Rattle.printer.proofs.calls.suggest.Reads as reads
-use Rattle.printer.proofs.calls.suggest.Lts as lts
-use Rattle.bodies.proofs.bad_value.Reads as bad-value-reads
-use Rattle.codes.proofs.no_room.Reads as no-room-reads
-use Rattle.printer.proofs.calls.refused.Reads as refused-reads
-use Rattle.printer.proofs.on.returns.Reads as returns-reads
-use Rattle.disposition.proofs.put_suggestion.Reads as put-suggestion-reads
-use Rattle.disposition.proofs.with_dr.Reads as with-dr-reads
 
--- src/calls.rt:197:8
 no-room-requires : tie.Need-no-room-requires
 no-room-requires c κs = search needs
 
--- src/calls.rt:198:9
 refused-requires : tie.Need-refused-requires
 refused-requires c κs = search needs
 
--- src/calls.rt:198:9
 returns : tie.Need-returns
 unfolding suggestCall guarded
 returns c =
     let room = c .before in
     rw (sym (room .before .no-room .ensures) ∙ room .if1 .taken, c .refused .ensures) met-refused
 
--- src/calls.rt:201:9
-returns-requires : tie.Need-returns-requires
-returns-requires c κs = search needs
+returns-in-force-requires : tie.Need-returns-in-force-requires
+returns-in-force-requires c κs = search needs
 
--- src/calls.rt:202:9
+suggest-refusal-requires : tie.Need-suggest-refusal-requires
+suggest-refusal-requires c κs = search needs
+
+is-done-requires : tie.Need-is-done-requires
+is-done-requires c κs = search needs
+
 refused-requires-2 : tie.Need-refused-requires-2
 refused-requires-2 c κs = search needs
 
--- src/calls.rt:202:9
 returns-2 : tie.Need-returns-2
-unfolding suggestCall guarded
+unfolding suggestCall
 returns-2 c =
-    let on = c .before in
-    let room = on .before .before .before in
-    rw (sym (room .before .no-room .ensures) ∙ room .if1 .left, ap not (sym (on .before .returns .ensures)) ∙ on .if2 .taken, c .refused2 .ensures) met-refused
-
--- src/calls.rt:204:8
-bad-value-requires : tie.Need-bad-value-requires
-bad-value-requires c κs = search needs
-
--- src/calls.rt:205:9
-refused-requires-3 : tie.Need-refused-requires-3
-refused-requires-3 c κs = search needs
-
--- src/calls.rt:205:9
-returns-3 : tie.Need-returns-3
-unfolding suggestCall guarded
-returns-3 c =
-    let bad = c .before in
-    let on = bad .before .before in
-    let room = on .before .before .before in
-    rw (sym (room .before .no-room .ensures) ∙ room .if1 .left, ap not (sym (on .before .returns .ensures)) ∙ on .if2 .left, sym (bad .before .bad-value .ensures) ∙ bad .if3 .taken, c .refused3 .ensures)
-    met-refused
-
--- src/calls.rt:209:9
-refused-requires-4 : tie.Need-refused-requires-4
-refused-requires-4 c κs = search needs
-
--- src/calls.rt:209:9
-returns-4 : tie.Need-returns-4
-unfolding suggestCall guarded
-returns-4 c =
-    let so = c .before in
-    let bad = so .before .before .before in
-    let on = bad .before .before in
-    let room = on .before .before .before in
-    rw (sym (room .before .no-room .ensures) ∙ room .if1 .left, ap not (sym (on .before .returns .ensures)) ∙ on .if2 .left, sym (bad .before .bad-value .ensures) ∙ bad .if3 .left, eq-eqb _ _ (so .if4 .taken), c .refused4 .ensures)
+    let found = c .before .before .before in
+    let on = found .before .returns-in-force in
+    let room = found .before .before .before .before in
+    let a = room .before .before .before .before .args in
+    let gs = suggestGuards (on .result) (a .s .values .dr) (a .v) in
+    let first = when (noRoom (length (a .paper .now)) (length (a .wire .now))) NoRoom in
+    let refuses : isDone (refusalOf gs) ≡ false = ap isDone (sym (found .suggest-refusal .ensures)) ∙ sym (c .before .before .is-done .ensures) ∙ not-true _ (c .before .if2 .taken) in
+    rw (← on .ensures, guarded-passed _ _ first gs (sym (room .before .no-room .ensures) ∙ room .if1 .left), guarded-refused _ _ gs refuses, ← found .suggest-refusal .ensures, c .refused2 .ensures)
     met-refused
 
 put-suggestion-requires : tie.Need-put-suggestion-requires
 put-suggestion-requires c κs =
-    let room = c .before .before .before .before .before .before .before .before .before in
+    let room = c .before .before .before .before .before .before .before in
     let a = room .before .before .before .before .args in
     room-for (sends (suggestion DR (a .v)) (viewPrinter (a .s))) (a .paper .now) (a .wire .now) (sym (room .before .no-room .ensures) ∙ room .if1 .left)
     (record { paper = lit≤ tt; wire = suggestion-fits (a .v) }) .1
@@ -101,16 +69,17 @@ with-dr-requires c κs = search needs
 same-length : tie.Need-same-length
 same-length c = search needs
 
--- src/calls.rt:194:1
-returns-5 : tie.Need-returns-5
-unfolding suggestCall guarded
-returns-5 c =
-    let so = c .before .before .before .before .before in
-    let bad = so .before .before .before in
-    let on = bad .before .before in
-    let room = on .before .before .before in
+returns-3 : tie.Need-returns-3
+unfolding suggestCall
+returns-3 c =
+    let found = c .before .before .before .before .before .before .before in
+    let on = found .before .returns-in-force in
+    let room = found .before .before .before .before in
     let a = room .before .before .before .before .args in
-    rw (sym (room .before .no-room .ensures) ∙ room .if1 .left, ap not (sym (on .before .returns .ensures)) ∙ on .if2 .left, sym (bad .before .bad-value .ensures) ∙ bad .if3 .left, ne-eqb _ _ (so .if4 .left), c .with-dr .ensures)
+    let gs = suggestGuards (on .result) (a .s .values .dr) (a .v) in
+    let first = when (noRoom (length (a .paper .now)) (length (a .wire .now))) NoRoom in
+    let none : isDone (refusalOf gs) ≡ true = ap isDone (sym (found .suggest-refusal .ensures)) ∙ sym (c .before .before .before .before .before .before .is-done .ensures) ∙ not-false _ (c .before .before .before .before .before .if2 .left) in
+    rw (← on .ensures, guarded-passed _ _ first gs (sym (room .before .no-room .ensures) ∙ room .if1 .left), guarded-done _ _ gs (refl, (refl, (refl, tt))) none, c .with-dr .ensures)
     (record {
       code = refl;
       note = refl;
@@ -128,15 +97,12 @@ suggest-spec =
     no-room-requires
     refused-requires
     returns
-    returns-requires
+    returns-in-force-requires
+    suggest-refusal-requires
+    is-done-requires
     refused-requires-2
     returns-2
-    bad-value-requires
-    refused-requires-3
-    returns-3
-    refused-requires-4
-    returns-4
     put-suggestion-requires
     with-dr-requires
     same-length
-    returns-5)
+    returns-3)

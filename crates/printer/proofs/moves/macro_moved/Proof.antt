@@ -7,26 +7,21 @@ use Rattle.printer.proofs.moves.macro_moved.Reads as reads
 use Rattle.printer.proofs.moves.macro_moved.Lts as lts
 use Rattle.macros.proofs.empty.Reads as empty-reads
 
--- src/moves.rt:38:9
 moved-requires : tie.Need-moved-requires
 moved-requires c κs = search needs
 
--- src/moves.rt:41:8
 still-on-requires : tie.Need-still-on-requires
 still-on-requires c κs = search needs
 
--- src/moves.rt:42:9
 returns : tie.Need-returns
 unfolding sideMoved
 returns c =
     rw (c .before .before .moved .ensures, sym (c .before .still-on .ensures) ∙ c .if1 .taken)
     (record { view = refl; clean = λ k. record { reader = k .reader; table = k .table; echo = k .echo } })
 
--- src/moves.rt:44:9
 empty-requires : tie.Need-empty-requires
 empty-requires c κs = search needs
 
--- src/moves.rt:34:1
 returns-2 : tie.Need-returns-2
 unfolding sideMoved
 returns-2 c =

@@ -5,15 +5,12 @@ use Rattle.printer.proofs.moves.plainly_moved.Reads as reads
 use Rattle.printer.proofs.moves.plainly_moved.Lts as lts
 use Rattle.printer.proofs.moves.quiet.Reads as quiet-reads
 
--- src/moves.rt:71:9
 moved-requires : tie.Need-moved-requires
 moved-requires c κs = search needs
 
--- src/moves.rt:74:5
 quiet-requires : tie.Need-quiet-requires
 quiet-requires c κs = search needs
 
--- src/moves.rt:67:1
 returns : tie.Need-returns
 returns c = rw (← c .before .moved .ensures) (c .quiet .ensures)
 

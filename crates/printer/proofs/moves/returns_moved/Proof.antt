@@ -6,15 +6,12 @@ use Rattle.printer.proofs.moves.returns_moved.Tie as tie
 use Rattle.printer.proofs.moves.returns_moved.Reads as reads
 use Rattle.printer.proofs.moves.returns_moved.Lts as lts
 
--- src/moves.rt:54:9
 moved-requires : tie.Need-moved-requires
 moved-requires c κs = search needs
 
--- src/moves.rt:57:8
 is-yes-requires : tie.Need-is-yes-requires
 is-yes-requires c κs = search needs
 
--- src/moves.rt:58:9
 returns : tie.Need-returns
 unfolding sideMoved
 returns c =

@@ -12,108 +12,83 @@ use Rattle.printer.proofs.moves.quiet.Reads as quiet-reads
 use Rattle.printer.proofs.moves.rcte_moved.Reads as rcte-moved-reads
 use Rattle.printer.proofs.moves.returns_moved.Reads as returns-moved-reads
 
--- src/moves.rt:105:40
 enum-told : tie.Need-enum-told
 enum-told c = search needs
 
--- src/moves.rt:105:23
 rcte-moved-requires : tie.Need-rcte-moved-requires
 rcte-moved-requires c κs = rw (c .before .before .enum-told .given .1) at (c .before .before .before .before .before .before .pre)
 
--- src/moves.rt:107:17
 enum-told-2 : tie.Need-enum-told-2
 enum-told-2 c = search needs
 
--- src/moves.rt:107:17
 macro-moved-requires : tie.Need-macro-moved-requires
 macro-moved-requires c κs = search needs
 
--- src/moves.rt:108:13
 quiet-requires : tie.Need-quiet-requires
 quiet-requires c κs = search needs
 
--- src/moves.rt:111:17
 enum-told-3 : tie.Need-enum-told-3
 enum-told-3 c = search needs
 
--- src/moves.rt:111:17
 returns-moved-requires : tie.Need-returns-moved-requires
 returns-moved-requires c κs = search needs
 
--- src/moves.rt:112:13
 quiet-requires-2 : tie.Need-quiet-requires-2
 quiet-requires-2 c κs = search needs
 
--- src/moves.rt:114:37
 enum-told-4 : tie.Need-enum-told-4
 enum-told-4 c = search needs
 
--- src/moves.rt:114:28
 quiet-requires-3 : tie.Need-quiet-requires-3
 quiet-requires-3 c κs = search needs
 
--- src/moves.rt:115:40
 enum-told-5 : tie.Need-enum-told-5
 enum-told-5 c = search needs
 
--- src/moves.rt:115:23
 plainly-moved-requires : tie.Need-plainly-moved-requires
 plainly-moved-requires c κs = search needs
 
--- src/moves.rt:116:47
 enum-told-6 : tie.Need-enum-told-6
 enum-told-6 c = search needs
 
--- src/moves.rt:116:30
 plainly-moved-requires-2 : tie.Need-plainly-moved-requires-2
 plainly-moved-requires-2 c κs = search needs
 
--- src/moves.rt:117:46
 enum-told-7 : tie.Need-enum-told-7
 enum-told-7 c = search needs
 
--- src/moves.rt:117:29
 plainly-moved-requires-3 : tie.Need-plainly-moved-requires-3
 plainly-moved-requires-3 c κs = search needs
 
--- src/moves.rt:99:1
 same-length : tie.Need-same-length
 same-length c = search needs
 
--- src/moves.rt:99:1
 same-length-2 : tie.Need-same-length-2
 same-length-2 c = search needs
 
--- src/moves.rt:99:1
 returns : tie.Need-returns
 returns c = rw (c .before .before .before .before .before .before .before .enum-told .given .1) (c .before .before .before .before .rcte-moved .ensures)
 
--- src/moves.rt:99:1
 returns-2 : tie.Need-returns-2
 unfolding sideMoved
 returns-2 c = rw (c .before .before .enum-told2 .given .1, c .quiet .ensures) (met-still _ _ _ (c .before .macro-moved .ensures) _ _)
 
--- src/moves.rt:99:1
 returns-3 : tie.Need-returns-3
 unfolding sideMoved
 returns-3 c = rw (c .before .before .enum-told3 .given .1, c .quiet2 .ensures) (met-still _ _ _ (c .before .returns-moved .ensures) _ _)
 
--- src/moves.rt:99:1
 returns-4 : tie.Need-returns-4
 unfolding sideMoved
 returns-4 c = rw (c .before .enum-told4 .given .1, c .quiet3 .ensures) (met-still _ _ _ (record { view = refl; clean = λ k. k }) _ _)
 
--- src/moves.rt:99:1
 returns-5 : tie.Need-returns-5
 unfolding sideMoved
 returns-5 c = rw (c .before .enum-told5 .given .1, c .plainly-moved .ensures) (met-still _ _ _ (record { view = refl; clean = λ k. record { reader = k .reader; table = k .table; echo = k .echo } }) _ _)
 
--- src/moves.rt:99:1
 returns-6 : tie.Need-returns-6
 unfolding sideMoved
 returns-6 c = rw (c .before .enum-told6 .given .1, c .plainly-moved2 .ensures) (met-still _ _ _ (record { view = refl; clean = λ k. record { reader = k .reader; table = k .table; echo = k .echo } }) _ _)
 
--- src/moves.rt:99:1
 returns-7 : tie.Need-returns-7
 unfolding sideMoved
 returns-7 c = rw (c .before .enum-told7 .given .1, c .plainly-moved3 .ensures) (met-still _ _ _ (record { view = refl; clean = λ k. record { reader = k .reader; table = k .table; echo = k .echo } }) _ _)

@@ -23,29 +23,23 @@ use Rattle.printer.proofs.network.text_read.Reads as text-read-reads
 as-text : (s : Printer) (b : ℕ) (e : Entry) (t : List ℕ) → e ≡ text (textOf e) → t ≡ textOf e → entryRead s b e ≡ bytesRead s t
 as-text s b e t h c = ap (λ (x : Entry). entryRead s b x) h ∙ ap (λ (x : List ℕ). bytesRead s x) (sym c)
 
--- src/network.rt:113:8
 is-defined-requires : tie.Need-is-defined-requires
 is-defined-requires c κs = search needs
 
--- src/network.rt:114:13
 text-of-requires : tie.Need-text-of-requires
 text-of-requires c κs = search needs
 
--- src/network.rt:115:9
 text-read-requires : tie.Need-text-read-requires
 text-read-requires c κs =
     let z = sized-view (c .before .before .before .before .before .before .before .before .args .s) .texts (c .before .before .before .before .before .before .before .before .args .b) in
     (omega (arith, c .before .before .text-of .ensures .count), rw (as-text (viewPrinter (c .before .before .before .before .before .before .before .before .args .s)) (c .before .before .before .before .before .before .before .before .args .b) (entryOf (viewPrinter (c .before .before .before .before .before .before .before .before .args .s) .table) (c .before .before .before .before .before .before .before .before .args .b)) (textIn (c .before .before .text-of .result)) (text-entry _ (sym (c .before .before .before .before .is-defined .ensures) ∙ c .before .before .before .if1 .taken)) (c .before .before .text-of .ensures .bytes)) at (c .before .before .before .before .before .before .before .before .pre))
 
--- src/network.rt:115:9
 same-length : tie.Need-same-length
 same-length c = search needs
 
--- src/network.rt:115:9
 same-length-2 : tie.Need-same-length-2
 same-length-2 c = search needs
 
--- src/network.rt:115:9
 returns : tie.Need-returns
 returns c =
     let start = c .before .before .before .before .before .before .before .before .before .before .before .before .before in
@@ -55,22 +49,18 @@ returns c =
     let text-of = c .before .before .before .before .before .before .before .text-of in
     rw (as-text (viewPrinter (a .s)) (a .b) (entryOf (viewPrinter (a .s) .table) (a .b)) (textIn (text-of .result)) (text-entry _ (sym (is-defined .ensures) ∙ if1 .taken)) (text-of .ensures .bytes)) (c .before .before .before .before .text-read .ensures)
 
--- src/network.rt:117:5
 byte-read-requires : tie.Need-byte-read-requires
 byte-read-requires c κs =
     let start = c .before .before .before .before .before .before .before in
     let a = start .args in
     rw (ap (λ (x : Entry). entryRead (viewPrinter (a .s)) (a .b) x) (plain-entry (entryOf (viewPrinter (a .s) .table) (a .b)) (sym (c .before .before .before .is-defined .ensures) ∙ c .before .before .if1 .left))) at (start .pre)
 
--- src/network.rt:107:1
 same-length-3 : tie.Need-same-length-3
 same-length-3 c = search needs
 
--- src/network.rt:107:1
 same-length-4 : tie.Need-same-length-4
 same-length-4 c = search needs
 
--- src/network.rt:107:1
 returns-2 : tie.Need-returns-2
 returns-2 c =
     let start = c .before .before .before .before .before .before .before .before .before .before .before .before in

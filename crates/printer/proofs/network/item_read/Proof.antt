@@ -10,83 +10,63 @@ use Rattle.printer.proofs.moves.negotiated.Reads as negotiated-reads
 use Rattle.printer.proofs.moves.quiet.Reads as quiet-reads
 use Rattle.printer.proofs.network.data_read.Reads as data-read-reads
 
--- src/network.rt:51:42
 enum-told : tie.Need-enum-told
 enum-told c = search needs
 
--- src/network.rt:51:26
 quiet-requires : tie.Need-quiet-requires
 quiet-requires c κs = search needs
 
--- src/network.rt:52:20
 enum-known-item : tie.Need-enum-known-item
 enum-known-item c = search needs
 
--- src/network.rt:52:26
 data-read-requires : tie.Need-data-read-requires
 data-read-requires c κs = rw (c .before .before .item .given .1) at (c .before .before .before .before .before .before .pre .0)
 
--- src/network.rt:53:26
 enum-known-item-2 : tie.Need-enum-known-item-2
 enum-known-item-2 c = search needs
 
--- src/network.rt:53:40
 negotiated-requires : tie.Need-negotiated-requires
 negotiated-requires c κs = rw (c .before .before .before .item2 .given .1) at (c .before .before .before .before .before .before .before .pre)
 
--- src/network.rt:54:45
 enum-told-2 : tie.Need-enum-told-2
 enum-told-2 c = search needs
 
--- src/network.rt:54:26
 body-read-requires : tie.Need-body-read-requires
 body-read-requires c κs = rw (c .before .before .enum-told2 .given .1) at (c .before .before .before .before .before .before .pre)
 
--- src/network.rt:55:47
 enum-told-3 : tie.Need-enum-told-3
 enum-told-3 c = search needs
 
--- src/network.rt:55:31
 quiet-requires-2 : tie.Need-quiet-requires-2
 quiet-requires-2 c κs = search needs
 
--- src/network.rt:45:1
 returns : tie.Need-returns
 returns c = rw (c .before .enum-told .given .1, c .quiet .ensures) (met-quietly _ _ _ _ refl (λ k. k) .met _ _)
 
--- src/network.rt:45:1
 same-length : tie.Need-same-length
 same-length c = search needs
 
--- src/network.rt:45:1
 returns-2 : tie.Need-returns-2
 returns-2 c = rw (c .before .before .before .before .before .item .given .1) (c .before .before .data-read .ensures .met _)
 
--- src/network.rt:45:1
 same-length-2 : tie.Need-same-length-2
 same-length-2 c = search needs
 
--- src/network.rt:45:1
 same-length-3 : tie.Need-same-length-3
 same-length-3 c = search needs
 
--- src/network.rt:45:1
 returns-3 : tie.Need-returns-3
 returns-3 c = rw (c .before .before .before .before .before .before .before .before .item2 .given .1) (c .before .before .before .before .negotiated .ensures)
 
--- src/network.rt:45:1
 same-length-4 : tie.Need-same-length-4
 same-length-4 c = search needs
 
--- src/network.rt:45:1
 same-length-5 : tie.Need-same-length-5
 same-length-5 c = search needs
 
--- src/network.rt:45:1
 returns-4 : tie.Need-returns-4
 returns-4 c = rw (c .before .before .before .before .before .before .before .enum-told2 .given .1) (c .before .before .before .before .body-read .ensures)
 
--- src/network.rt:45:1
 returns-5 : tie.Need-returns-5
 returns-5 c = rw (c .before .enum-told3 .given .1, c .quiet2 .ensures) (met-quietly _ _ _ _ refl (λ k. k) .met _ _)
 

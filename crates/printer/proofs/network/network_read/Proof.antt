@@ -6,62 +6,45 @@ use mathlib.Core.Path.{sym, _∙_}
 use borrow.Author.Needs.{needs}
 use Rattle.printer.proofs.network.network_read.Statement.{statement}
 use Rattle.printer.proofs.network.network_read.Tie as tie
-use Rattle.printer.proofs.network.network_read.Reads as reads
-use Rattle.printer.proofs.network.network_read.Lts as lts
-use Rattle.macros.proofs.is_unmarked.Reads as is-unmarked-reads
-use Rattle.printer.proofs.network.byte_read.Reads as byte-read-reads
-use Rattle.printer.proofs.network.defined_read.Reads as defined-read-reads
-use Rattle.printer.proofs.on.macros.Reads as macros-reads
-use Rattle.reader.proofs.is_between.Reads as is-between-reads
 
--- src/network.rt:127:9
-macros-requires : tie.Need-macros-requires
-macros-requires c κs = search needs
+macros-in-force-requires : tie.Need-macros-in-force-requires
+macros-in-force-requires c κs = search needs
 
--- src/network.rt:128:9
 byte-read-requires : tie.Need-byte-read-requires
 byte-read-requires c κs =
     let start = c .before .before .before .before .before .before .before in
     let a = start .args in
-    rw (off-read (viewPrinter (a .t1)) (a .b) (sym (c .before .before .before .macros .ensures) ∙ not-true _ (c .before .before .if1 .taken))) at (start .pre)
+    rw (off-read (viewPrinter (a .t1)) (a .b) (sym (c .before .before .before .macros-in-force .ensures) ∙ not-true _ (c .before .before .if1 .taken))) at (start .pre)
 
--- src/network.rt:128:9
 same-length : tie.Need-same-length
 same-length c = search needs
 
--- src/network.rt:128:9
 same-length-2 : tie.Need-same-length-2
 same-length-2 c = search needs
 
--- src/network.rt:128:9
 returns : tie.Need-returns
 returns c =
     let start = c .before .before .before .before .before .before .before .before .before .before .before .before in
     let a = start .args in
-    let macros = c .before .before .before .before .before .before .before .before .macros in
+    let macros = c .before .before .before .before .before .before .before .before .macros-in-force in
     let if1 = c .before .before .before .before .before .before .before .if1 in
     rw (off-read (viewPrinter (a .t1)) (a .b) (sym (macros .ensures) ∙ not-true _ (if1 .taken))) (c .before .before .before .before .byte-read .ensures)
 
--- src/network.rt:130:8
 is-unmarked-requires : tie.Need-is-unmarked-requires
 is-unmarked-requires c κs = search needs
 
--- src/network.rt:131:9
 byte-read-requires-2 : tie.Need-byte-read-requires-2
 byte-read-requires-2 c κs =
     let start = c .before .before .before .before .before .before .before .before .before .before .before in
     let a = start .args in
     rw (plain-read (viewPrinter (a .t1)) (a .b) (unmarked-plain (a .t1 .table) (a .b) (sym (c .before .before .before .is-unmarked .ensures) ∙ c .before .before .if2 .taken))) at (start .pre)
 
--- src/network.rt:131:9
 same-length-3 : tie.Need-same-length-3
 same-length-3 c = search needs
 
--- src/network.rt:131:9
 same-length-4 : tie.Need-same-length-4
 same-length-4 c = search needs
 
--- src/network.rt:131:9
 returns-2 : tie.Need-returns-2
 returns-2 c =
     let start = c .before .before .before .before .before .before .before .before .before .before .before .before .before .before .before .before in
@@ -70,26 +53,21 @@ returns-2 c =
     let if2 = c .before .before .before .before .before .before .before .if2 in
     rw (plain-read (viewPrinter (a .t1)) (a .b) (unmarked-plain (a .t1 .table) (a .b) (sym (is-unmarked .ensures) ∙ if2 .taken))) (c .before .before .before .before .byte-read2 .ensures)
 
--- src/network.rt:134:9
 is-between-requires : tie.Need-is-between-requires
 is-between-requires c κs = search needs
 
--- src/network.rt:135:9
 byte-read-requires-3 : tie.Need-byte-read-requires-3
 byte-read-requires-3 c κs =
     let start = c .before .before .before .before .before .before .before .before .before .before .before .before .before .before in
     let a = start .args in
     rw (inside-read (viewPrinter (a .t1)) (a .b) (sym (c .before .before .before .is-between .ensures) ∙ not-true _ (c .before .before .if3 .taken))) at (start .pre)
 
--- src/network.rt:135:9
 same-length-5 : tie.Need-same-length-5
 same-length-5 c = search needs
 
--- src/network.rt:135:9
 same-length-6 : tie.Need-same-length-6
 same-length-6 c = search needs
 
--- src/network.rt:135:9
 returns-3 : tie.Need-returns-3
 returns-3 c =
     let start = c .before .before .before .before .before .before .before .before .before .before .before .before .before .before .before .before .before .before .before in
@@ -98,29 +76,25 @@ returns-3 c =
     let if3 = c .before .before .before .before .before .before .before .if3 in
     rw (inside-read (viewPrinter (a .t1)) (a .b) (sym (is-between .ensures) ∙ not-true _ (if3 .taken))) (c .before .before .before .before .byte-read3 .ensures)
 
--- src/network.rt:137:5
 defined-read-requires : tie.Need-defined-read-requires
 defined-read-requires c κs =
     let start = c .before .before .before .before .before .before .before .before .before .before .before .before .before .before in
     let a = start .args in
-    let macros = c .before .before .before .before .before .before .before .before .before .before .macros in
+    let macros = c .before .before .before .before .before .before .before .before .before .before .macros-in-force in
     let if1 = c .before .before .before .before .before .before .before .before .before .if1 in
     rw (chosen-read (viewPrinter (a .t1)) (a .b) (sym (macros .ensures) ∙ not-false _ (if1 .left)) (sym (c .before .before .before .is-between .ensures) ∙ not-false _ (c .before .before .if3 .left))) at (start .pre)
 
--- src/network.rt:121:1
 same-length-7 : tie.Need-same-length-7
 same-length-7 c = search needs
 
--- src/network.rt:121:1
 same-length-8 : tie.Need-same-length-8
 same-length-8 c = search needs
 
--- src/network.rt:121:1
 returns-4 : tie.Need-returns-4
 returns-4 c =
     let start = c .before .before .before .before .before .before .before .before .before .before .before .before .before .before .before .before .before .before .before in
     let a = start .args in
-    let macros = c .before .before .before .before .before .before .before .before .before .before .before .before .before .before .before .macros in
+    let macros = c .before .before .before .before .before .before .before .before .before .before .before .before .before .before .before .macros-in-force in
     let if1 = c .before .before .before .before .before .before .before .before .before .before .before .before .before .before .if1 in
     let is-between = c .before .before .before .before .before .before .before .before .is-between in
     let if3 = c .before .before .before .before .before .before .before .if3 in
@@ -130,7 +104,7 @@ pub network-read-spec : {M : Type 1} → statement M
 network-read-spec =
     tie.close
     (tie.spec
-    macros-requires
+    macros-in-force-requires
     byte-read-requires
     same-length
     same-length-2

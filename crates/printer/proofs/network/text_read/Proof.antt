@@ -31,20 +31,17 @@ all-read bytes count i h = simp length-take (omega arith)
 text-long : (c : tie.Start Inv-loop μ-loop) → length (c .args .text .bytes) ≡ 255
 text-long c = search needs
 
--- src/network.rt:88:5
 loop-holds : tie.Need-loop-holds Inv-loop μ-loop
 loop-holds c =
     let start = c .before .before .before in
     let a = start .args in
     begun (a .s) (a .paper .now) (a .wire .now) (take (a .text .len) (a .text .bytes))
 
--- src/network.rt:89:17
 array-read-b : tie.Need-array-read-b Inv-loop μ-loop
 array-read-b c =
     let l = text-long (c .before .before .before .before .before) in
     omega (arith, c .before .before .before .before .before .pre .0)
 
--- src/network.rt:90:40
 sub-byte-read : tie.Need-sub-byte-read Inv-loop μ-loop
 sub-byte-read c =
     let start = c .before .before .before .before .before in
@@ -52,7 +49,6 @@ sub-byte-read c =
     let loop = c .before .loop in
     paper-within (a .s) (a .paper .now) (a .wire .now) (take (a .text .len) (a .text .bytes)) (start .pre .1 .0) (start .pre .1 .1) (loop .paper) (loop .wire) (loop .state) (loop .note) (loop .i) (loop .p) (loop .w) (loop .inv)
 
--- src/network.rt:90:40
 part-byte-read-start : tie.Need-part-byte-read-start Inv-loop μ-loop
 part-byte-read-start c =
     let start = c .before .before .before .before .before in
@@ -60,11 +56,9 @@ part-byte-read-start c =
     let loop = c .before .loop in
     paper-within (a .s) (a .paper .now) (a .wire .now) (take (a .text .len) (a .text .bytes)) (start .pre .1 .0) (start .pre .1 .1) (loop .paper) (loop .wire) (loop .state) (loop .note) (loop .i) (loop .p) (loop .w) (loop .inv)
 
--- src/network.rt:90:40
 part-byte-read-end : tie.Need-part-byte-read-end Inv-loop μ-loop
 part-byte-read-end c = search needs
 
--- src/network.rt:90:57
 sub-byte-read-2 : tie.Need-sub-byte-read-2 Inv-loop μ-loop
 sub-byte-read-2 c =
     let start = c .before .before .before .before .before .before in
@@ -72,7 +66,6 @@ sub-byte-read-2 c =
     let loop = c .before .before .loop in
     wire-within (a .s) (a .paper .now) (a .wire .now) (take (a .text .len) (a .text .bytes)) (start .pre .1 .0) (start .pre .1 .1) (loop .paper) (loop .wire) (loop .state) (loop .note) (loop .i) (loop .p) (loop .w) (loop .inv)
 
--- src/network.rt:90:57
 part-byte-read-start-2 : tie.Need-part-byte-read-start-2 Inv-loop μ-loop
 part-byte-read-start-2 c =
     let start = c .before .before .before .before .before .before in
@@ -80,54 +73,45 @@ part-byte-read-start-2 c =
     let loop = c .before .before .loop in
     wire-within (a .s) (a .paper .now) (a .wire .now) (take (a .text .len) (a .text .bytes)) (start .pre .1 .0) (start .pre .1 .1) (loop .paper) (loop .wire) (loop .state) (loop .note) (loop .i) (loop .p) (loop .w) (loop .inv)
 
--- src/network.rt:90:57
 part-byte-read-end-2 : tie.Need-part-byte-read-end-2 Inv-loop μ-loop
 part-byte-read-end-2 c = search needs
 
--- src/network.rt:90:13
 byte-read-requires : tie.Need-byte-read-requires Inv-loop μ-loop
 byte-read-requires c κs =
     let l = text-long (c .before .before .before .before .before .before .before) in
     let at : getD (take (c .before .before .before .before .before .before .before .args .text .len) (c .before .before .before .before .before .before .before .args .text .bytes)) (c .before .before .before .loop .i) 0 ≡ getD (c .before .before .before .before .before .before .before .args .text .bytes) (c .before .before .before .loop .i) 0 = getD-take (c .before .before .before .before .before .before .before .args .text .len) (c .before .before .before .before .before .before .before .args .text .bytes) (c .before .before .before .loop .i) 0 (c .before .before .loop-test .taken) in
     (rw at at (paper-next (c .before .before .before .before .before .before .before .args .s) (c .before .before .before .before .before .before .before .args .paper .now) (c .before .before .before .before .before .before .before .args .wire .now) (take (c .before .before .before .before .before .before .before .args .text .len) (c .before .before .before .before .before .before .before .args .text .bytes)) (c .before .before .before .before .before .before .before .pre .1 .0) (c .before .before .before .before .before .before .before .pre .1 .1) (c .before .before .before .loop .paper) (c .before .before .before .loop .wire) (c .before .before .before .loop .state) (c .before .before .before .loop .note) (c .before .before .before .loop .i) (c .before .before .before .loop .p) (c .before .before .before .loop .w) (c .before .before .before .loop .inv) (in-text (c .before .before .before .before .before .before .before .args .text .bytes) (c .before .before .before .before .before .before .before .args .text .len) (c .before .before .before .loop .i) l (c .before .before .before .before .before .before .before .pre .0) (c .before .before .loop-test .taken))), rw at at (wire-next (c .before .before .before .before .before .before .before .args .s) (c .before .before .before .before .before .before .before .args .paper .now) (c .before .before .before .before .before .before .before .args .wire .now) (take (c .before .before .before .before .before .before .before .args .text .len) (c .before .before .before .before .before .before .before .args .text .bytes)) (c .before .before .before .before .before .before .before .pre .1 .0) (c .before .before .before .before .before .before .before .pre .1 .1) (c .before .before .before .loop .paper) (c .before .before .before .loop .wire) (c .before .before .before .loop .state) (c .before .before .before .loop .note) (c .before .before .before .loop .i) (c .before .before .before .loop .p) (c .before .before .before .loop .w) (c .before .before .before .loop .inv) (in-text (c .before .before .before .before .before .before .before .args .text .bytes) (c .before .before .before .before .before .before .before .args .text .len) (c .before .before .before .loop .i) l (c .before .before .before .before .before .before .before .pre .0) (c .before .before .loop-test .taken))))
 
--- src/network.rt:91:9
 add-p : tie.Need-add-p Inv-loop μ-loop
 add-p c =
     let l = text-long (c .before .before .before .before .before .before .before .before .before .before .before .before .before) in
     let at : getD (take (c .before .before .before .before .before .before .before .before .before .before .before .before .before .args .text .len) (c .before .before .before .before .before .before .before .before .before .before .before .before .before .args .text .bytes)) (c .before .before .before .before .before .before .before .before .before .loop .i) 0 ≡ getD (c .before .before .before .before .before .before .before .before .before .before .before .before .before .args .text .bytes) (c .before .before .before .before .before .before .before .before .before .loop .i) 0 = getD-take (c .before .before .before .before .before .before .before .before .before .before .before .before .before .args .text .len) (c .before .before .before .before .before .before .before .before .before .before .before .before .before .args .text .bytes) (c .before .before .before .before .before .before .before .before .before .loop .i) 0 (c .before .before .before .before .before .before .before .before .loop-test .taken) in
     omega (arith, paper-counted (c .before .before .before .before .before .before .before .before .before .before .before .before .before .args .s) (c .before .before .before .before .before .before .before .before .before .before .before .before .before .args .paper .now) (c .before .before .before .before .before .before .before .before .before .before .before .before .before .args .wire .now) (take (c .before .before .before .before .before .before .before .before .before .before .before .before .before .args .text .len) (c .before .before .before .before .before .before .before .before .before .before .before .before .before .args .text .bytes)) (c .before .before .before .before .before .before .before .before .before .before .before .before .before .pre .1 .0) (c .before .before .before .before .before .before .before .before .before .before .before .before .before .pre .1 .1) (c .before .before .before .before .before .before .before .before .before .loop .paper) (c .before .before .before .before .before .before .before .before .before .loop .wire) (c .before .before .before .before .before .before .before .before .before .loop .state) (c .before .before .before .before .before .before .before .before .before .loop .note) (c .before .before .before .before .before .before .before .before .before .loop .i) (c .before .before .before .before .before .before .before .before .before .loop .p) (c .before .before .before .before .before .before .before .before .before .loop .w) (c .before .before .before .before .before .before .before .before .before .loop .inv) (in-text (c .before .before .before .before .before .before .before .before .before .before .before .before .before .args .text .bytes) (c .before .before .before .before .before .before .before .before .before .before .before .before .before .args .text .len) (c .before .before .before .before .before .before .before .before .before .loop .i) l (c .before .before .before .before .before .before .before .before .before .before .before .before .before .pre .0) (c .before .before .before .before .before .before .before .before .loop-test .taken)) (c .before .before .before .before .before .byte-read .last .1 .1 .0) (c .before .before .before .before .before .byte-read .last .1 .1 .1 .0) (c .before .before .before .before .before .byte-read .result) (rw (← at) at (c .before .before .before .before .before .byte-read .ensures)), c .before .before .before .before .before .before .before .before .before .before .before .before .before .good .1 .1 .0 .0)
 
--- src/network.rt:92:9
 add-w : tie.Need-add-w Inv-loop μ-loop
 add-w c =
     let l = text-long (c .before .before .before .before .before .before .before .before .before .before .before .before .before .before) in
     let at : getD (take (c .before .before .before .before .before .before .before .before .before .before .before .before .before .before .args .text .len) (c .before .before .before .before .before .before .before .before .before .before .before .before .before .before .args .text .bytes)) (c .before .before .before .before .before .before .before .before .before .before .loop .i) 0 ≡ getD (c .before .before .before .before .before .before .before .before .before .before .before .before .before .before .args .text .bytes) (c .before .before .before .before .before .before .before .before .before .before .loop .i) 0 = getD-take (c .before .before .before .before .before .before .before .before .before .before .before .before .before .before .args .text .len) (c .before .before .before .before .before .before .before .before .before .before .before .before .before .before .args .text .bytes) (c .before .before .before .before .before .before .before .before .before .before .loop .i) 0 (c .before .before .before .before .before .before .before .before .before .loop-test .taken) in
     omega (arith, wire-counted (c .before .before .before .before .before .before .before .before .before .before .before .before .before .before .args .s) (c .before .before .before .before .before .before .before .before .before .before .before .before .before .before .args .paper .now) (c .before .before .before .before .before .before .before .before .before .before .before .before .before .before .args .wire .now) (take (c .before .before .before .before .before .before .before .before .before .before .before .before .before .before .args .text .len) (c .before .before .before .before .before .before .before .before .before .before .before .before .before .before .args .text .bytes)) (c .before .before .before .before .before .before .before .before .before .before .before .before .before .before .pre .1 .0) (c .before .before .before .before .before .before .before .before .before .before .before .before .before .before .pre .1 .1) (c .before .before .before .before .before .before .before .before .before .before .loop .paper) (c .before .before .before .before .before .before .before .before .before .before .loop .wire) (c .before .before .before .before .before .before .before .before .before .before .loop .state) (c .before .before .before .before .before .before .before .before .before .before .loop .note) (c .before .before .before .before .before .before .before .before .before .before .loop .i) (c .before .before .before .before .before .before .before .before .before .before .loop .p) (c .before .before .before .before .before .before .before .before .before .before .loop .w) (c .before .before .before .before .before .before .before .before .before .before .loop .inv) (in-text (c .before .before .before .before .before .before .before .before .before .before .before .before .before .before .args .text .bytes) (c .before .before .before .before .before .before .before .before .before .before .before .before .before .before .args .text .len) (c .before .before .before .before .before .before .before .before .before .before .loop .i) l (c .before .before .before .before .before .before .before .before .before .before .before .before .before .before .pre .0) (c .before .before .before .before .before .before .before .before .before .loop-test .taken)) (c .before .before .before .before .before .before .byte-read .last .1 .1 .0) (c .before .before .before .before .before .before .byte-read .last .1 .1 .1 .0) (c .before .before .before .before .before .before .byte-read .result) (rw (← at) at (c .before .before .before .before .before .before .byte-read .ensures)), c .before .before .before .before .before .before .before .before .before .before .before .before .before .before .good .1 .1 .1 .0 .0)
 
--- src/network.rt:94:9
 first-note-requires : tie.Need-first-note-requires Inv-loop μ-loop
 first-note-requires c κs = search needs
 
--- src/network.rt:96:9
 add-i : tie.Need-add-i Inv-loop μ-loop
 add-i c =
     let start = c .before .before .before .before .before .before .before .before .before .before .before .before .before .before .before .before in
     let loop-test = c .before .before .before .before .before .before .before .before .before .before .before .loop-test in
     omega (arith, loop-test .taken, start .pre .0)
 
--- src/network.rt:88:5
 loop-less : tie.Need-loop-less Inv-loop μ-loop
 loop-less c = omega (arith, c .before .before .before .before .before .before .before .before .before .before .before .loop-test .taken)
 
--- src/network.rt:88:5
 loop-again : tie.Need-loop-again Inv-loop μ-loop
 loop-again c =
     let l = text-long (c .before .before .before .before .before .before .before .before .before .before .before .before .before .before .before .before) in
     let at : getD (take (c .before .before .before .before .before .before .before .before .before .before .before .before .before .before .before .before .args .text .len) (c .before .before .before .before .before .before .before .before .before .before .before .before .before .before .before .before .args .text .bytes)) (c .before .before .before .before .before .before .before .before .before .before .before .before .loop .i) 0 ≡ getD (c .before .before .before .before .before .before .before .before .before .before .before .before .before .before .before .before .args .text .bytes) (c .before .before .before .before .before .before .before .before .before .before .before .before .loop .i) 0 = getD-take (c .before .before .before .before .before .before .before .before .before .before .before .before .before .before .before .before .args .text .len) (c .before .before .before .before .before .before .before .before .before .before .before .before .before .before .before .before .args .text .bytes) (c .before .before .before .before .before .before .before .before .before .before .before .before .loop .i) 0 (c .before .before .before .before .before .before .before .before .before .before .before .loop-test .taken) in
     rw (c .before .first-note .ensures) (turn (c .before .before .before .before .before .before .before .before .before .before .before .before .before .before .before .before .args .s) (c .before .before .before .before .before .before .before .before .before .before .before .before .before .before .before .before .args .paper .now) (c .before .before .before .before .before .before .before .before .before .before .before .before .before .before .before .before .args .wire .now) (take (c .before .before .before .before .before .before .before .before .before .before .before .before .before .before .before .before .args .text .len) (c .before .before .before .before .before .before .before .before .before .before .before .before .before .before .before .before .args .text .bytes)) (c .before .before .before .before .before .before .before .before .before .before .before .before .before .before .before .before .pre .1 .0) (c .before .before .before .before .before .before .before .before .before .before .before .before .before .before .before .before .pre .1 .1) (c .before .before .before .before .before .before .before .before .before .before .before .before .loop .paper) (c .before .before .before .before .before .before .before .before .before .before .before .before .loop .wire) (c .before .before .before .before .before .before .before .before .before .before .before .before .loop .state) (c .before .before .before .before .before .before .before .before .before .before .before .before .loop .note) (c .before .before .before .before .before .before .before .before .before .before .before .before .loop .i) (c .before .before .before .before .before .before .before .before .before .before .before .before .loop .p) (c .before .before .before .before .before .before .before .before .before .before .before .before .loop .w) (c .before .before .before .before .before .before .before .before .before .before .before .before .loop .inv) (in-text (c .before .before .before .before .before .before .before .before .before .before .before .before .before .before .before .before .args .text .bytes) (c .before .before .before .before .before .before .before .before .before .before .before .before .before .before .before .before .args .text .len) (c .before .before .before .before .before .before .before .before .before .before .before .before .loop .i) l (c .before .before .before .before .before .before .before .before .before .before .before .before .before .before .before .before .pre .0) (c .before .before .before .before .before .before .before .before .before .before .before .loop-test .taken)) (c .before .before .before .before .before .before .before .before .byte-read .last .1 .1 .0) (c .before .before .before .before .before .before .before .before .byte-read .last .1 .1 .1 .0) (c .before .before .before .before .before .before .before .before .byte-read .result) (rw (← at) at (c .before .before .before .before .before .before .before .before .byte-read .ensures)))
 
--- src/network.rt:75:1
 same-length : tie.Need-same-length Inv-loop μ-loop
 same-length c =
     let start = c .before .before .before .before .before in
@@ -135,7 +119,6 @@ same-length c =
     let loop = c .before .loop in
     same-long (loop .inv .paper) (paper-done (a .s) (a .paper .now) (a .wire .now) (take (a .text .len) (a .text .bytes)) (start .pre .1 .0) (start .pre .1 .1) (loop .paper) (loop .wire) (loop .state) (loop .note) (loop .i) (loop .p) (loop .w) (loop .inv))
 
--- src/network.rt:75:1
 same-length-2 : tie.Need-same-length-2 Inv-loop μ-loop
 same-length-2 c =
     let start = c .before .before .before .before .before in
@@ -143,7 +126,6 @@ same-length-2 c =
     let loop = c .before .loop in
     same-long (loop .inv .wire) (wire-done (a .s) (a .paper .now) (a .wire .now) (take (a .text .len) (a .text .bytes)) (start .pre .1 .0) (start .pre .1 .1) (loop .paper) (loop .wire) (loop .state) (loop .note) (loop .i) (loop .p) (loop .w) (loop .inv))
 
--- src/network.rt:75:1
 returns : tie.Need-returns Inv-loop μ-loop
 returns c =
     let start = c .before .before .before .before .before in

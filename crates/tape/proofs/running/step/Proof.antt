@@ -10,7 +10,7 @@ use Rattle.tape.proofs.running.step.Statement.{statement}
 use Rattle.tape.proofs.running.step.Tie as tie
 use Rattle.tape.proofs.running.step.Reads as reads
 use Rattle.tape.proofs.running.step.Lts as lts
-use Rattle.tape.proofs.fields.body_of.Reads as body-of-reads
+use Rattle.tape.proofs.fields.part_of.Reads as part-of-reads
 use Rattle.tape.proofs.running.is_over.Reads as is-over-reads
 use Rattle.tape.proofs.running.is_too_long.Reads as is-too-long-reads
 use Rattle.tape.proofs.running.next_field.Reads as next-field-reads
@@ -45,8 +45,8 @@ returns-2 c =
     let is-too-long = c .before .before .before .before .before .is-too-long in
     rw (step-long (a .tape .now) (viewMachine (a .m)) (sym (is-over .ensures) ∙ if1 .left) (sym (is-too-long .ensures) ∙ c .before .before .before .before .if2 .taken)) (c .before .before .refuse-tape .ensures)
 
-body-of-requires : tie.Need-body-of-requires
-body-of-requires c κs = search needs
+part-of-requires : tie.Need-part-of-requires
+part-of-requires c κs = search needs
 
 width-requires : tie.Need-width-requires
 width-requires c κs = search needs
@@ -69,9 +69,9 @@ returns-3 c =
     let if1 = c .before .before .before .before .before .before .before .before .before .if1 in
     let is-too-long = c .before .before .before .before .before .before .before .before .is-too-long in
     let if2 = c .before .before .before .before .before .before .before .if2 in
-    let body-of = c .before .before .before .before .before .before .body-of in
+    let part-of = c .before .before .before .before .before .before .part-of in
     let width = c .before .before .before .before .before .width in
-    rw (step-field (a .tape .now) (viewMachine (a .m)) (sym (is-over .ensures) ∙ if1 .left) (sym (is-too-long .ensures) ∙ if2 .left) (rw (body-of .ensures, width .ensures) at (c .before .before .before .before .if3 .taken)))
+    rw (step-field (a .tape .now) (viewMachine (a .m)) (sym (is-over .ensures) ∙ if1 .left) (sym (is-too-long .ensures) ∙ if2 .left) (rw (part-of .ensures, width .ensures) at (c .before .before .before .before .if3 .taken)))
     (c .before .before .next-field .ensures)
 
 shared-slice-read-a : tie.Need-shared-slice-read-a
@@ -83,7 +83,7 @@ second-requires c κs = search needs
 past-item-requires : tie.Need-past-item-requires
 past-item-requires c κs =
     let p = c .before .before .before .before .before .before .before .before .before .before .before .before .before .before .args .m .place in
-    let long = part-long (c .before .before .before .before .before .before .before .before .before .before .before .before .before .before .args .tape .now) (p .at) (p .left) _ (some-width (p .tag)) (rw (c .before .before .before .before .body-of .ensures, c .before .before .before .width .ensures) at (c .before .before .if3 .left)) in
+    let long = part-long (c .before .before .before .before .before .before .before .before .before .before .before .before .before .before .args .tape .now) (p .at) (p .left) _ (some-width (p .tag)) (rw (c .before .before .before .before .part-of .ensures, c .before .before .before .width .ensures) at (c .before .before .if3 .left)) in
     (stands _ (sym (c .before .before .before .before .before .before .before .before .is-over .ensures) ∙ c .before .before .before .before .before .before .before .if1 .left) .item, (long .1, long .0))
 
 one-item-requires : tie.Need-one-item-requires
@@ -106,14 +106,14 @@ returns-4 c =
     let if1 = c .before .before .before .before .before .before .before .before .before .before .before .before .before .before .before .before .before .before .if1 in
     let is-too-long = c .before .before .before .before .before .before .before .before .before .before .before .before .before .before .before .before .before .is-too-long in
     let if2 = c .before .before .before .before .before .before .before .before .before .before .before .before .before .before .before .before .if2 in
-    let body-of = c .before .before .before .before .before .before .before .before .before .before .before .before .before .before .before .body-of in
+    let part-of = c .before .before .before .before .before .before .before .before .before .before .before .before .before .before .before .part-of in
     let width = c .before .before .before .before .before .before .before .before .before .before .before .before .before .before .width in
     let if3 = c .before .before .before .before .before .before .before .before .before .before .before .before .before .if3 in
     let second = c .before .before .before .before .before .before .before .before .before .before .before .second in
     let past-item = c .before .before .before .before .before .before .before .before .before .before .past-item in
     let one-item = c .before .before .before .before .before .before .one-item in
-    rw (step-item (a .tape .now) (viewMachine (a .m)) (sym (is-over .ensures) ∙ if1 .left) (sym (is-too-long .ensures) ∙ if2 .left) (rw (body-of .ensures, width .ensures) at (if3 .left)))
-    (rw (past-item .ensures, second .ensures, body-of .ensures) at (one-item .ensures))
+    rw (step-item (a .tape .now) (viewMachine (a .m)) (sym (is-over .ensures) ∙ if1 .left) (sym (is-too-long .ensures) ∙ if2 .left) (rw (part-of .ensures, width .ensures) at (if3 .left)))
+    (rw (past-item .ensures, second .ensures, part-of .ensures) at (one-item .ensures))
 
 pub step-spec : {M : Type 1} → statement M
 step-spec =
@@ -125,7 +125,7 @@ step-spec =
     refuse-tape-requires
     same-length
     returns-2
-    body-of-requires
+    part-of-requires
     width-requires
     next-field-requires
     same-length-2

@@ -1,0 +1,28 @@
+use borrow.Author.Needs.{needs}
+use Rattle.bulletin.proofs.calls.fresh.Statement.{statement}
+use Rattle.bulletin.proofs.calls.fresh.Tie as tie
+
+all-no-requires : tie.Need-all-no-requires
+all-no-requires c κs = search needs
+
+idle-requires : tie.Need-idle-requires
+idle-requires c κs = search needs
+
+none-requires : tie.Need-none-requires
+none-requires c κs = search needs
+
+unspoken-requires : tie.Need-unspoken-requires
+unspoken-requires c κs = search needs
+
+returns : tie.Need-returns
+returns c =
+    let none = c .before .none in
+    record {
+      view = rw (c .before .before .before .all-no .ensures, c .before .before .idle .ensures .view, none .ensures .0, c .unspoken .ensures);
+      clean = record { reader = c .before .before .idle .ensures .clean; table = none .ensures .1 };
+      whole = record { body = search needs; table = search needs };
+    }
+
+pub fresh-spec : {M : Type 1} → statement M
+fresh-spec =
+    tie.close (tie.spec all-no-requires idle-requires none-requires unspoken-requires returns)

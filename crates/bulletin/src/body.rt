@@ -1,0 +1,94 @@
+// A subnegotiation's body at the bulletin end.
+ghost use Rattle.lists.specs.Buffers.{RoomFor};
+ghost use Rattle.codes.specs.Telnet.{DR};
+ghost use Rattle.bodies.specs.MacroBodies.{replyBody};
+ghost use Rattle.bodies.specs.ValueBodies.{valueBody};
+ghost use Rattle.bulletin.specs.Network.{replied, replyRead, valueRead, bodyHandled};
+ghost use Rattle.bulletin.specs.Kept.{viewBulletin, bodyEndRead, MetStepOnWire, MetQuietly};
+use crate::Bulletin;
+use crate::Step;
+use crate::moves;
+use bodies::MacroReply;
+use bodies::ReplyBody;
+use bodies::ValueBody;
+use codes::DR;
+use codes::Note;
+use negotiation::End;
+use subnegotiation::Checked;
+
+// The printer end's value about carriage returns, with NAOCRD in force.
+fn value_read(s: Bulletin, body: &[u8]) -> Step
+    ensures { λ r. ⌜ MetQuietly (valueRead (viewBulletin s) (valueBody DR (now (body .entry)))) s r ⌝ }
+{
+    let ValueBody::Readable(value) = bodies::value_body(DR, body) else {
+        return moves::step(s, Note::Unreadable, 0);
+    };
+    let old = s.values;
+    let values = disposition::with_dr(old, value);
+    let t = moves::with_values(s, values);
+    moves::step(t, Note::Clear, 0)
+}
+
+// What the printer end says of a macro.
+fn replied(s: Bulletin, reply: MacroReply, wire: &mut [u8]) -> Step
+    requires { ⌜ RoomFor (replied (viewBulletin s) reply .wire) (now wire) ⌝ }
+    ensures { λ r. ⌜ MetStepOnWire (replied (viewBulletin s) reply) s (now (wire .entry)) (now (wire .exit)) r ⌝ }
+{
+    let old = s.table;
+    match reply {
+        MacroReply::Accept(x) => {
+            let table = definitions::accepted(old, x);
+            moves::step(moves::with_table(s, table), Note::Clear, 0)
+        }
+        MacroReply::Refuse(x) => {
+            let table = definitions::refused(old, x);
+            moves::step(moves::with_table(s, table), Note::Clear, 0)
+        }
+        MacroReply::PleaseCancel(x) => {
+            let c = definitions::cancel(old, x, wire);
+            let n = c.wire;
+            let table = c.table;
+            moves::step(moves::with_table(s, table), Note::Clear, n)
+        }
+    }
+}
+
+// BM's answers, with BM in force.
+fn reply_read(s: Bulletin, body: &[u8], wire: &mut [u8]) -> Step
+    requires { ⌜ RoomFor (replyRead (viewBulletin s) (replyBody (now body)) .wire) (now wire) ⌝ }
+    ensures { λ r. ⌜ MetStepOnWire (replyRead (viewBulletin s) (replyBody (now (body .entry)))) s (now (wire .entry)) (now (wire .exit)) r ⌝ }
+{
+    let ReplyBody::Readable(reply) = bodies::reply_body(body) else {
+        return moves::step(s, Note::Unreadable, 0);
+    };
+    replied(s, reply, wire)
+}
+
+// A body by its option, or the note that ends its handling.
+fn handled(s: Bulletin, body: &[u8], checked: Checked, wire: &mut [u8]) -> Step
+    requires { ⌜ RoomFor (bodyHandled (viewBulletin s) (now body) checked .wire) (now wire) ⌝ }
+    ensures { λ r. ⌜ MetStepOnWire (bodyHandled (viewBulletin s) (now (body .entry)) checked) s (now (wire .entry)) (now (wire .exit)) r ⌝ }
+{
+    match checked {
+        Checked::Noted(note) => moves::step(s, note, 0),
+        Checked::Rcte => moves::step(s, Note::OtherOption, 0),
+        Checked::Returns => value_read(s, body),
+        Checked::Macro => reply_read(s, body, wire),
+    }
+}
+
+// The body that the reader kept; the reader is empty after it.
+pub fn body_read(s: Bulletin, wire: &mut [u8]) -> Step
+    requires { ⌜ RoomFor (bodyEndRead (viewBulletin s) .wire) (now wire) ⌝ }
+    ensures { λ r. ⌜ MetStepOnWire (bodyEndRead (viewBulletin s)) s (now (wire .entry)) (now (wire .exit)) r ⌝ }
+{
+    let kept = s.reader;
+    let sides = s.sides;
+    let checked = subnegotiation::body_checked(End::Bulletin, sides, kept);
+    let empty = reader::idle();
+    let mut t = s;
+    t.reader = empty;
+    let body = kept.body;
+    let n = reader::body_len(kept.len);
+    handled(t, &body[..n], checked, wire)
+}

@@ -1,0 +1,298 @@
+// The bulletin end's calls. None asks anything of its caller.
+ghost use mathlib.Core.Path.{_≡_};
+ghost use lib.ListN.{length};
+ghost use Rattle.codes.specs.Answers.{refusalOf};
+ghost use Rattle.bulletin.specs.Calls.{
+  networkCall,
+  askCall,
+  suggestCall,
+  orderGuards,
+  orderCall,
+  defineGuardsBeforeSize,
+  defineCall,
+  useGuards,
+  useCall,
+  textGuards,
+  textCall,
+  macroStatus,
+  returnsReport,
+  outputNow,
+};
+ghost use Rattle.bulletin.specs.Kept.{viewBulletin, WholeBulletin, MetAnswer, MetOnWire, MetFresh, refusal, answered};
+use crate::Answer;
+use crate::Bulletin;
+use crate::Output;
+use crate::Step;
+use crate::items;
+use crate::moves;
+use crate::network;
+use codes::Code;
+use codes::DS;
+use codes::IAC;
+use codes::Note;
+use definitions::Status;
+use disposition::Handling;
+use keys::Key;
+use negotiation::Asking;
+use negotiation::End;
+
+pub fn fresh() -> Bulletin
+    ensures { λ r. ⌜ MetFresh r ⌝ }
+{
+    let sides = negotiation::all_no();
+    let reader = reader::idle();
+    let table = definitions::none();
+    let values = disposition::unspoken();
+    Bulletin {
+        sides,
+        reader,
+        table,
+        values,
+        awaiting: false,
+    }
+}
+
+// A refusal: the state that was given, and nothing written.
+fn refused(s: Bulletin, code: Code) -> Answer
+    ensures { λ r. ⌜ r ≡ refusal s code ⌝ }
+{
+    Answer {
+        code,
+        note: Note::Clear,
+        host: 0,
+        wire: 0,
+        state: s,
+    }
+}
+
+fn done(step: Step) -> Answer
+    ensures { λ r. ⌜ (r ≡ answered step) × WholeBulletin (step .state) ⌝ }
+{
+    let state = step.state;
+    let note = step.note;
+    Answer {
+        code: Code::Done,
+        note,
+        host: step.host,
+        wire: step.wire,
+        state,
+    }
+}
+
+pub fn network_byte(s: Bulletin, b: u8, host: &mut [u8], wire: &mut [u8]) -> Answer
+    ensures { λ r. ⌜ MetAnswer (networkCall (viewBulletin s) b (length (now (host .entry))) (length (now (wire .entry)))) s (now (host .entry)) (now (host .exit)) (now (wire .entry)) (now (wire .exit)) r ⌝ }
+{
+    if codes::no_room(host.len(), wire.len()) {
+        return refused(s, Code::NoRoom);
+    }
+    let step = network::network_read(s, b, host, wire);
+    done(step)
+}
+
+// An option is asked for or given up: ways 0 and 1 disable and enable his side, 2 and 3 ours.
+pub fn ask(s: Bulletin, option: u8, way: u8, wire: &mut [u8]) -> Answer
+    ensures { λ r. ⌜ MetOnWire (askCall (viewBulletin s) option way (length (now (wire .entry)))) s (now (wire .entry)) (now (wire .exit)) r ⌝ }
+{
+    if codes::no_wire(wire.len()) {
+        return refused(s, Code::NoRoom);
+    }
+    let side = negotiation::asked_side(End::Bulletin, option, way);
+    let enable = negotiation::asked_enable(way);
+    let sides = s.sides;
+    let asking = negotiation::asking_of(sides, side, enable);
+    match asking {
+        Asking::Refused(code) => refused(s, code),
+        Asking::Moves(q, reply) => {
+            let whose = negotiation::asked_whose(way);
+            let step = moves::replied(s, side, q, whose, reply, option, wire);
+            done(step)
+        }
+    }
+}
+
+// This end's value about carriage returns, DS.
+pub fn suggest(s: Bulletin, v: u8, wire: &mut [u8]) -> Answer
+    ensures { λ r. ⌜ MetOnWire (suggestCall (viewBulletin s) v (length (now (wire .entry)))) s (now (wire .entry)) (now (wire .exit)) r ⌝ }
+{
+    if codes::no_wire(wire.len()) {
+        return refused(s, Code::NoRoom);
+    }
+    let sides = s.sides;
+    let old = s.values;
+    let code = disposition::suggest_refusal(negotiation::returns_in_force(sides), old.ds, v);
+    if !codes::is_done(code) {
+        return refused(s, code);
+    }
+    let n = disposition::put_suggestion(DS, v, wire);
+    let values = disposition::with_ds(old, v);
+    let t = moves::with_values(s, values);
+    let step = moves::step(t, Note::Clear, n);
+    done(step)
+}
+
+// The refusals of an order in their order; Done: none.
+fn order_refusal(s: Bulletin, cmd: u8, wire: usize) -> Code
+    ensures { λ r. ⌜ r ≡ refusalOf (orderGuards (viewBulletin s) cmd wire) ⌝ }
+{
+    if codes::no_wire(wire) {
+        return Code::NoRoom;
+    }
+    let sides = s.sides;
+    if !negotiation::rcte_in_force(sides) {
+        return Code::NotInForce;
+    }
+    if items::bad_order(cmd) {
+        Code::BadValue
+    } else {
+        Code::Done
+    }
+}
+
+// An RCTE command; a class pair is sent if the bit of cmd for it is on.
+pub fn order(s: Bulletin, cmd: u8, breaks: u16, sends: u16, wire: &mut [u8]) -> Answer
+    ensures { λ r. ⌜ MetOnWire (orderCall (viewBulletin s) cmd breaks sends (length (now (wire .entry)))) s (now (wire .entry)) (now (wire .exit)) r ⌝ }
+{
+    let code = order_refusal(s, cmd, wire.len());
+    if !codes::is_done(code) {
+        return refused(s, code);
+    }
+    let n = items::put_order(cmd, breaks, sends, wire);
+    let step = moves::step(s, Note::Clear, n);
+    done(step)
+}
+
+// The refusals of a DEFINE before its size, in their order; Done: none.
+fn define_refusal(s: Bulletin, x: u8, wire: usize) -> Code
+    ensures { λ r. ⌜ r ≡ refusalOf (defineGuardsBeforeSize (viewBulletin s) x wire) ⌝ }
+{
+    if codes::no_wire(wire) {
+        return Code::NoRoom;
+    }
+    let sides = s.sides;
+    if !negotiation::macros_in_force(End::Bulletin, sides) {
+        return Code::NotInForce;
+    }
+    if x == IAC {
+        return Code::BadMacroByte;
+    }
+    if definitions::is_pending(&s.table.statuses, x) {
+        Code::Unanswered
+    } else {
+        Code::Done
+    }
+}
+
+// A macro byte's new text, of any length.
+pub fn define(s: Bulletin, x: u8, text: &[u8], wire: &mut [u8]) -> Answer
+    ensures { λ r. ⌜ MetOnWire (defineCall (viewBulletin s) x (now (text .entry)) (length (now (wire .entry)))) s (now (wire .entry)) (now (wire .exit)) r ⌝ }
+{
+    let code = define_refusal(s, x, wire.len());
+    if !codes::is_done(code) {
+        return refused(s, code);
+    }
+    let old = s.table;
+    let d = definitions::define(old, x, text, wire);
+    if !d.fits {
+        return refused(s, Code::TooLong);
+    }
+    let n = d.wire;
+    let table = d.table;
+    let t = moves::with_table(s, table);
+    let step = moves::step(t, Note::Clear, n);
+    done(step)
+}
+
+// The refusals of a macro's use in their order; Done: none.
+fn use_refusal(s: Bulletin, x: u8, wire: usize) -> Code
+    ensures { λ r. ⌜ r ≡ refusalOf (useGuards (viewBulletin s) x wire) ⌝ }
+{
+    if codes::no_wire(wire) {
+        return Code::NoRoom;
+    }
+    let sides = s.sides;
+    if !negotiation::macros_in_force(End::Bulletin, sides) {
+        return Code::NotInForce;
+    }
+    if s.awaiting {
+        return Code::OutputWaits;
+    }
+    if definitions::is_accepted(&s.table.statuses, x) {
+        Code::Done
+    } else {
+        Code::NoText
+    }
+}
+
+// An accepted macro, by its byte.
+pub fn use_macro(s: Bulletin, x: u8, wire: &mut [u8]) -> Answer
+    ensures { λ r. ⌜ MetOnWire (useCall (viewBulletin s) x (length (now (wire .entry)))) s (now (wire .entry)) (now (wire .exit)) r ⌝ }
+{
+    let code = use_refusal(s, x, wire.len());
+    if !codes::is_done(code) {
+        return refused(s, code);
+    }
+    wire[0] = x;
+    let step = moves::step(s, Note::Clear, 1);
+    done(step)
+}
+
+// The refusals of a text item in their order; Done: none.
+fn text_refusal(s: Bulletin, k: Key, wire: usize) -> Code
+    ensures { λ r. ⌜ r ≡ refusalOf (textGuards (viewBulletin s) k wire) ⌝ }
+{
+    if codes::no_wire(wire) {
+        return Code::NoRoom;
+    }
+    if keys::bad_command(k) {
+        return Code::BadCommand;
+    }
+    if s.awaiting {
+        Code::OutputWaits
+    } else {
+        Code::Done
+    }
+}
+
+// A text item; with 254 in force output waits behind a carriage return.
+pub fn text_item(s: Bulletin, k: Key, wire: &mut [u8]) -> Answer
+    ensures { λ r. ⌜ MetOnWire (textCall (viewBulletin s) k (length (now (wire .entry)))) s (now (wire .entry)) (now (wire .exit)) r ⌝ }
+{
+    let code = text_refusal(s, k, wire.len());
+    if !codes::is_done(code) {
+        return refused(s, code);
+    }
+    let n = items::put_item(s, k, wire);
+    let mut t = s;
+    t.awaiting = items::waits_after(s, k);
+    let step = moves::step(t, Note::Clear, n);
+    done(step)
+}
+
+// How the last DEFINE of a byte stands; with BM not in force every byte is free.
+pub fn macro_status(s: Bulletin, x: u8) -> Status
+    ensures { λ r. ⌜ r ≡ macroStatus (viewBulletin s) x ⌝ }
+{
+    let sides = s.sides;
+    if negotiation::macros_in_force(End::Bulletin, sides) {
+        return definitions::status_at(&s.table.statuses, x);
+    }
+    Status::Free
+}
+
+// Who handles carriage returns, and how.
+pub fn report(s: Bulletin) -> Handling
+    ensures { λ r. ⌜ r ≡ returnsReport (viewBulletin s) ⌝ }
+{
+    items::handling_now(s)
+}
+
+// Whether output waits.
+pub fn output(s: Bulletin) -> Output
+    ensures { λ r. ⌜ r ≡ outputNow (viewBulletin s) ⌝ }
+{
+    if s.awaiting {
+        Output::Waiting
+    } else {
+        Output::Ready
+    }
+}

@@ -1,0 +1,120 @@
+// Text items and orders as they are written.
+ghost use mathlib.Core.Path.{_≡_};
+ghost use Rattle.lists.specs.Buffers.{RoomFor, Wrote};
+ghost use Rattle.bulletin.specs.State.{handlingNow, definitionsNow};
+ghost use Rattle.bulletin.specs.Calls.{badOrder, pairBytes, orderPairs, orderBody, orderBytes, itemBytes, waitsAfter};
+ghost use Rattle.definitions.specs.Kept.{viewTable};
+ghost use Rattle.bulletin.specs.Kept.{viewBulletin};
+use crate::Bulletin;
+use codes::RCTE;
+use definitions::SendingTable;
+use disposition::Handling;
+use keys::Key;
+use negotiation::End;
+
+// The most data of an item: CR, the byte behind it, and 250 NULs.
+const ITEM_ROOM: usize = 252;
+
+// The most of an order's body: its option, cmd and two class pairs.
+const ORDER_ROOM: usize = 6;
+
+// An order's cmd is 0, or odd and at most 31.
+pub fn bad_order(cmd: u8) -> bool
+    ensures { λ r. ⌜ r ≡ badOrder cmd ⌝ }
+{
+    match cmd {
+        0 => false,
+        1..=31 => cmd % 2 != 1,
+        _ => true,
+    }
+}
+
+// A class pair, if its bit is on.
+fn put_pair(on: bool, pair: u16, out: &mut [u8]) -> usize
+    requires { ⌜ RoomFor (pairBytes on pair) (now out) ⌝ }
+    ensures { λ r. ⌜ Wrote (pairBytes on pair) (now (out .entry)) (now (out .exit)) r ⌝ }
+{
+    if on {
+        out[0] = (pair / 256 % 256) as u8;
+        out[1] = (pair % 256) as u8;
+        return 2;
+    }
+    0
+}
+
+// An order's class pairs, the one for break characters first.
+fn put_pairs(cmd: u8, breaks: u16, sends: u16, out: &mut [u8]) -> usize
+    requires { ⌜ RoomFor (orderPairs cmd breaks sends) (now out) ⌝ }
+    ensures { λ r. ⌜ Wrote (orderPairs cmd breaks sends) (now (out .entry)) (now (out .exit)) r ⌝ }
+{
+    let n = put_pair(bodies::sets_breaks(cmd), breaks, out);
+    let m = put_pair(bodies::sets_sends(cmd), sends, &mut out[n..]);
+    n + m
+}
+
+fn put_order_body(cmd: u8, breaks: u16, sends: u16, out: &mut [u8]) -> usize
+    requires { ⌜ RoomFor (orderBody cmd breaks sends) (now out) ⌝ }
+    ensures { λ r. ⌜ Wrote (orderBody cmd breaks sends) (now (out .entry)) (now (out .exit)) r ⌝ }
+{
+    out[0] = RCTE;
+    out[1] = cmd;
+    2 + put_pairs(cmd, breaks, sends, &mut out[2..])
+}
+
+// An order to the printer end.
+pub fn put_order(cmd: u8, breaks: u16, sends: u16, out: &mut [u8]) -> usize
+    requires { ⌜ RoomFor (orderBytes cmd breaks sends) (now out) ⌝ }
+    ensures { λ r. ⌜ Wrote (orderBytes cmd breaks sends) (now (out .entry)) (now (out .exit)) r ⌝ }
+{
+    let mut body = [0u8; ORDER_ROOM];
+    let n = put_order_body(cmd, breaks, sends, &mut body);
+    wire::put_frame(&body[..n], out)
+}
+
+pub fn handling_now(s: Bulletin) -> Handling
+    ensures { λ r. ⌜ r ≡ handlingNow (viewBulletin s) ⌝ }
+{
+    let sides = s.sides;
+    let values = s.values;
+    let on = negotiation::returns_in_force(sides);
+    disposition::handling_while(on, values)
+}
+
+// Whether output waits once an item is sent.
+pub fn waits_after(s: Bulletin, k: Key) -> bool
+    ensures { λ r. ⌜ r ≡ waitsAfter (viewBulletin s) k ⌝ }
+{
+    if s.awaiting {
+        return true;
+    }
+    if !disposition::is_return(k) {
+        return false;
+    }
+    disposition::awaits(handling_now(s))
+}
+
+// With BM not in force, every byte is sent as free.
+fn table_now(s: Bulletin) -> SendingTable
+    ensures { λ r. ⌜ viewTable r ≡ definitionsNow (viewBulletin s) ⌝ }
+{
+    let sides = s.sides;
+    if negotiation::macros_in_force(End::Bulletin, sides) {
+        return s.table;
+    }
+    definitions::none()
+}
+
+// The bytes of an item: its data, byte by byte; a Command as it is.
+pub fn put_item(s: Bulletin, k: Key, wire: &mut [u8]) -> usize
+    requires { ⌜ RoomFor (itemBytes (definitionsNow (viewBulletin s)) (handlingNow (viewBulletin s)) k) (now wire) ⌝ }
+    ensures { λ r. ⌜ Wrote (itemBytes (definitionsNow (viewBulletin s)) (handlingNow (viewBulletin s)) k) (now (wire .entry)) (now (wire .exit)) r ⌝ }
+{
+    if keys::is_command(k) {
+        return wire::put_key(k, wire);
+    }
+    let handling = handling_now(s);
+    let table = table_now(s);
+    let mut data = [0u8; ITEM_ROOM];
+    let n = disposition::put_item(handling, k, &mut data);
+    definitions::put_data(table, &data[..n], wire)
+}

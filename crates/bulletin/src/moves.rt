@@ -1,0 +1,140 @@
+// Negotiation: what is heard, and what follows as a side's standing changes.
+ghost use mathlib.Core.Path.{_≡_};
+ghost use Rattle.lists.specs.Buffers.{RoomFor};
+ghost use Rattle.negotiation.specs.Carried.{replyBytes};
+ghost use Rattle.bulletin.specs.State.{withValues};
+ghost use Rattle.bulletin.specs.Network.{sideState, sideMoved, negotiationRead};
+ghost use Rattle.negotiation.specs.declared.Side.the-variants.{Macro, Returns};
+ghost use Rattle.bulletin.specs.Kept.{viewBulletin, MetStepOnWire, MetState, stepOf, sidesMoved, tableSet};
+use crate::Bulletin;
+use crate::Step;
+use codes::Note;
+use codes::Verb;
+use codes::Whose;
+use definitions::SendingTable;
+use disposition::Values;
+use negotiation::End;
+use negotiation::Reply;
+use negotiation::Side;
+use negotiation::Standing;
+
+// A step that gives the host nothing.
+pub fn step(s: Bulletin, note: Note, wire: usize) -> Step
+    ensures { λ r. ⌜ r ≡ stepOf note wire s ⌝ }
+{
+    Step {
+        note,
+        host: 0,
+        wire,
+        state: s,
+    }
+}
+
+pub fn with_table(s: Bulletin, table: SendingTable) -> Bulletin
+    ensures { λ r. ⌜ r ≡ tableSet s table ⌝ }
+{
+    let mut t = s;
+    t.table = table;
+    t
+}
+
+// A wait lasts while the outcome stays the sender's 254.
+pub fn with_values(s: Bulletin, values: Values) -> Bulletin
+    ensures { λ r. ⌜ MetState (withValues (viewBulletin s) values) s r ⌝ }
+{
+    let handling = disposition::handling_of(values);
+    let awaiting = s.awaiting && disposition::awaits(handling);
+    let mut t = s;
+    t.values = values;
+    t.awaiting = awaiting;
+    t
+}
+
+// Leaving YES empties BM's table.
+fn macro_moved(s: Bulletin, q: Standing) -> Bulletin
+    ensures { λ r. ⌜ MetState (sideState (viewBulletin s) Macro q) s r ⌝ }
+{
+    let old = s.sides;
+    let sides = negotiation::moved(old, Side::Macro, q);
+    let mut t = s;
+    t.sides = sides;
+    if negotiation::is_yes(q) {
+        return t;
+    }
+    let empty = definitions::none();
+    t.table = empty;
+    t
+}
+
+// .. and forgets NAOCRD's values.
+fn returns_moved(s: Bulletin, q: Standing) -> Bulletin
+    ensures { λ r. ⌜ MetState (sideState (viewBulletin s) Returns q) s r ⌝ }
+{
+    let old = s.sides;
+    let sides = negotiation::moved(old, Side::Returns, q);
+    let mut t = s;
+    t.sides = sides;
+    if negotiation::is_yes(q) {
+        let values = s.values;
+        return with_values(t, values);
+    }
+    let values = disposition::unspoken();
+    with_values(t, values)
+}
+
+// Nothing but the standing changes.
+fn plainly_moved(s: Bulletin, side: Side, q: Standing) -> Bulletin
+    ensures { λ r. ⌜ r ≡ sidesMoved s side q ⌝ }
+{
+    let old = s.sides;
+    let sides = negotiation::moved(old, side, q);
+    let mut t = s;
+    t.sides = sides;
+    t
+}
+
+fn side_moved(s: Bulletin, side: Side, q: Standing) -> Bulletin
+    ensures { λ r. ⌜ MetState (sideState (viewBulletin s) side q) s r ⌝ }
+{
+    match side {
+        Side::Macro => macro_moved(s, q),
+        Side::Returns => returns_moved(s, q),
+        Side::Rcte => plainly_moved(s, Side::Rcte, q),
+        Side::Echo => plainly_moved(s, Side::Echo, q),
+        Side::BulletinSga => plainly_moved(s, Side::BulletinSga, q),
+        Side::PrinterSga => plainly_moved(s, Side::PrinterSga, q),
+        Side::Uncarried => s,
+    }
+}
+
+// The reply or the request goes out as the side moves.
+pub fn replied(
+    s: Bulletin,
+    side: Side,
+    q: Standing,
+    whose: Whose,
+    reply: Reply,
+    option: u8,
+    wire: &mut [u8],
+) -> Step
+    requires { ⌜ RoomFor (sideMoved (viewBulletin s) side q (replyBytes whose reply option) .wire) (now wire) ⌝ }
+    ensures { λ r. ⌜ MetStepOnWire (sideMoved (viewBulletin s) side q (replyBytes whose reply option)) s (now (wire .entry)) (now (wire .exit)) r ⌝ }
+{
+    let n = negotiation::put_reply(whose, reply, option, wire);
+    let t = side_moved(s, side, q);
+    step(t, Note::Clear, n)
+}
+
+// WILL, WONT, DO or DONT of an option.
+pub fn negotiated(s: Bulletin, v: Verb, option: u8, wire: &mut [u8]) -> Step
+    requires { ⌜ RoomFor (negotiationRead (viewBulletin s) v option .wire) (now wire) ⌝ }
+    ensures { λ r. ⌜ MetStepOnWire (negotiationRead (viewBulletin s) v option) s (now (wire .entry)) (now (wire .exit)) r ⌝ }
+{
+    let sides = s.sides;
+    let turn = negotiation::heard_by(End::Bulletin, sides, v, option);
+    let side = turn.side;
+    let q = turn.next;
+    let whose = turn.whose;
+    let reply = turn.reply;
+    replied(s, side, q, whose, reply, option, wire)
+}

@@ -1,0 +1,55 @@
+// A network byte at the bulletin end.
+ghost use Rattle.lists.specs.Buffers.{RoomFor};
+ghost use Rattle.bulletin.specs.Network.{dataRead, itemRead, networkRead};
+ghost use Rattle.bulletin.specs.Kept.{viewBulletin, MetStep, MetOnHost};
+use crate::Bulletin;
+use crate::Step;
+use crate::body;
+use crate::moves;
+use codes::Note;
+use reader::Item;
+
+// Data goes to the host, and ends a wait.
+fn data_read(s: Bulletin, b: u8, host: &mut [u8]) -> Step
+    requires { ⌜ RoomFor (dataRead (viewBulletin s) b .host) (now host) ⌝ }
+    ensures { λ r. ⌜ MetOnHost (dataRead (viewBulletin s) b) s (now (host .entry)) (now (host .exit)) r ⌝ }
+{
+    host[0] = b;
+    let mut t = s;
+    t.awaiting = false;
+    Step {
+        note: Note::Clear,
+        host: 1,
+        wire: 0,
+        state: t,
+    }
+}
+
+// What a byte completed.
+fn item_read(s: Bulletin, item: Item, host: &mut [u8], wire: &mut [u8]) -> Step
+    requires { ⌜ RoomFor (itemRead (viewBulletin s) item .host) (now host) ⌝ }
+    requires { ⌜ RoomFor (itemRead (viewBulletin s) item .wire) (now wire) ⌝ }
+    ensures { λ r. ⌜ MetStep (itemRead (viewBulletin s) item) s (now (host .entry)) (now (host .exit)) (now (wire .entry)) (now (wire .exit)) r ⌝ }
+{
+    match item {
+        Item::Nothing => moves::step(s, Note::Clear, 0),
+        Item::Data(b) => data_read(s, b, host),
+        Item::Negotiated(v, option) => moves::negotiated(s, v, option, wire),
+        Item::BodyEnd => body::body_read(s, wire),
+        Item::StrayCommand => moves::step(s, Note::Stray, 0),
+    }
+}
+
+pub fn network_read(s: Bulletin, b: u8, host: &mut [u8], wire: &mut [u8]) -> Step
+    requires { ⌜ RoomFor (networkRead (viewBulletin s) b .host) (now host) ⌝ }
+    requires { ⌜ RoomFor (networkRead (viewBulletin s) b .wire) (now wire) ⌝ }
+    ensures { λ r. ⌜ MetStep (networkRead (viewBulletin s) b) s (now (host .entry)) (now (host .exit)) (now (wire .entry)) (now (wire .exit)) r ⌝ }
+{
+    let old = s.reader;
+    let read = reader::read_byte(old, b);
+    let item = read.item;
+    let next = read.reader;
+    let mut t = s;
+    t.reader = next;
+    item_read(t, item, host, wire)
+}

@@ -1,0 +1,74 @@
+use mathlib.Core.Path.{refl}
+use Rattle.printer.proofs.Meeting.{met-quietly}
+use borrow.Author.Needs.{needs}
+use Rattle.printer.proofs.body.handled.Statement.{statement}
+use Rattle.printer.proofs.body.handled.Tie as tie
+
+enum-known-checked : tie.Need-enum-known-checked
+enum-known-checked c = search needs
+
+quiet-requires : tie.Need-quiet-requires
+quiet-requires c κs = search needs
+
+enum-told : tie.Need-enum-told
+enum-told c = search needs
+
+rcte-read-requires : tie.Need-rcte-read-requires
+rcte-read-requires c κs = rw (c .before .before .enum-told .given .1) at (c .before .before .before .before .before .before .before .pre)
+
+enum-told-2 : tie.Need-enum-told-2
+enum-told-2 c = search needs
+
+value-read-requires : tie.Need-value-read-requires
+value-read-requires c κs = search needs
+
+enum-told-3 : tie.Need-enum-told-3
+enum-told-3 c = search needs
+
+macro-read-requires : tie.Need-macro-read-requires
+macro-read-requires c κs = rw (c .before .before .enum-told3 .given .1) at (c .before .before .before .before .before .before .before .pre)
+
+returns : tie.Need-returns
+returns c = rw (c .before .before .checked .given .1, c .quiet .ensures) (met-quietly _ _ _ _ refl (λ k. k) .met _ _)
+
+same-length : tie.Need-same-length
+same-length c = search needs
+
+same-length-2 : tie.Need-same-length-2
+same-length-2 c = search needs
+
+returns-2 : tie.Need-returns-2
+returns-2 c = rw (c .before .before .before .before .before .before .before .enum-told .given .1) (c .before .before .before .before .rcte-read .ensures)
+
+returns-3 : tie.Need-returns-3
+returns-3 c = rw (c .before .enum-told2 .given .1) (c .value-read .ensures .met _ _)
+
+same-length-3 : tie.Need-same-length-3
+same-length-3 c = search needs
+
+same-length-4 : tie.Need-same-length-4
+same-length-4 c = search needs
+
+returns-4 : tie.Need-returns-4
+returns-4 c = rw (c .before .before .before .before .before .before .before .enum-told3 .given .1) (c .before .before .before .before .macro-read .ensures)
+
+pub handled-spec : {M : Type 1} → statement M
+handled-spec =
+    tie.close
+    (tie.spec
+    enum-known-checked
+    quiet-requires
+    enum-told
+    rcte-read-requires
+    enum-told-2
+    value-read-requires
+    enum-told-3
+    macro-read-requires
+    returns
+    same-length
+    same-length-2
+    returns-2
+    returns-3
+    same-length-3
+    same-length-4
+    returns-4)

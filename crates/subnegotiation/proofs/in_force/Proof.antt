@@ -1,0 +1,16 @@
+use borrow.Author.Needs.{needs}
+use Rattle.subnegotiation.proofs.in_force.Statement.{statement}
+use Rattle.subnegotiation.proofs.in_force.Tie as tie
+use Rattle.subnegotiation.proofs.in_force.Reads as reads
+use Rattle.subnegotiation.proofs.in_force.Lts as lts
+
+-- src/lib.rt:30:1
+returns : tie.Need-returns
+returns c = search needs
+
+-- src/lib.rt:30:1
+returns-2 : tie.Need-returns-2
+returns-2 c = rw (c .if1 .left)
+
+pub in-force-spec : {M : Type 1} → statement M
+in-force-spec = tie.close (tie.spec returns returns-2)

@@ -1,0 +1,35 @@
+-- The checks on a body before its shape, in their order: marred or empty, another option, not in force.
+use mathlib.Core.Bool.{Bool, true, false, _&&_}
+use mathlib.Core.List.{List}
+use Prim.Native.Nat.{ℕ}
+use lib.Dec.{eqb}
+use Rattle.lists.specs.Choice.{pick}
+use Rattle.codes.specs.Telnet.{RCTE, NAOCRD, BM}
+use Rattle.codes.specs.declared.Note.the-variants.{Unreadable, Inactive, OtherOption}
+use Rattle.negotiation.specs.declared.End.{End}
+use Rattle.negotiation.specs.declared.End.the-variants.{Printer, Bulletin}
+use Rattle.negotiation.specs.declared.Sides.{Sides}
+use Rattle.negotiation.specs.Table.{isYes}
+use Rattle.negotiation.specs.Carried.{macrosInForce}
+use Rattle.reader.specs.Reading.{byOption}
+use Rattle.subnegotiation.specs.declared.Checked.{Checked}
+use Rattle.subnegotiation.specs.declared.Checked.the-variants.{Noted, Rcte, Returns, Macro}
+
+-- RCTE's bodies are commands to the printer end; the bulletin end reads none
+abbrev pub readsRcte : End → Bool
+readsRcte Printer = true
+readsRcte Bulletin = false
+
+abbrev pub inForce : Bool → Checked → Checked
+inForce on c = pick on c (Noted Inactive)
+
+-- of a body neither marred nor empty: first its option, then whether that is in force
+unfoldable pub optionChecked : End → Sides → ℕ → Checked
+optionChecked end s option =
+    pick (eqb option RCTE && readsRcte end) (inForce (isYes (s .rcte)) Rcte)
+    (pick (eqb option NAOCRD) (inForce (isYes (s .naocrd)) Returns)
+    (pick (eqb option BM) (inForce (macrosInForce end s) Macro)
+    (Noted OtherOption)))
+
+unfoldable pub checked : End → Sides → Bool → List ℕ → Checked
+checked end s marred body = byOption marred body (Noted Unreadable) (optionChecked end s)
