@@ -1,0 +1,11 @@
+pub mod Wrappers
+pub mod OneArgument
+pub mod TwoArguments
+pub mod OneOnWire
+pub mod TwoOnWire
+pub mod ThreeOnWire
+pub mod TextOnWire
+pub mod Question
+pub mod QuestionOfOne
+pub mod PrinterEnd
+pub mod BulletinEnd

@@ -1,0 +1,45 @@
+-- The printer end's types, for the laws of calls on a lent record.
+use mathlib.Core.Path.{refl}
+use mir.Syntax.{tyInt, w64}
+use mir.Val.{vint}
+use denote.Struct.Laws as LL
+use Rattle.codes.proofs.Code.Laws as C′
+use Rattle.codes.proofs.Note.Laws as T′
+use Rattle.printer.proofs.Printer as P
+use Rattle.printer.proofs.Printer.Laws as P′
+use Rattle.printer.proofs.Answer as N
+use Rattle.printer.proofs.Answer.Laws as N′
+use Rattle.sessions.specs.LentAnswers.{printerAnswer}
+use Rattle.sessions.proofs.PrinterOutcome as O
+use Rattle.sessions.proofs.PrinterOutcome.Laws as O′
+use Rattle.sessions.proofs.Wrappers.{Plainly, Types, Laws, of-struct}
+
+abbrev pub types : Types
+types = record { state = P.the-row; answer = N.the-row; outcome = O.the-row; stated = P′.mir; τ₀ = C′.mir; τ₁ = T′.mir; τ₂ = tyInt w64; τ₃ = tyInt w64; answer-name = N.struct .name; outcome-name = O.struct .name }
+
+abbrev pub state-plain : Plainly P.the-row P′.mir
+state-plain = of-struct P.the-type P′.the-laws P′.the-plain
+
+abbrev outcome : N.the-row .Denot → O.the-row .Denot
+outcome r = record { code = r .code; note = r .note; paper = r .paper; wire = r .wire }
+
+abbrev pub laws : Laws types
+laws = record {
+  kept = state-plain;
+  after = λ r. r .state;
+  out = outcome;
+  back = printerAnswer;
+  back-is = λ r. refl;
+  v₀ = λ r. C′.the-field-laws .val (N.the-type .to r .0);
+  v₁ = λ r. T′.the-field-laws .val (N.the-type .to r .1 .0);
+  v₂ = λ r. vint w64 (r .paper);
+  v₃ = λ r. vint w64 (r .wire);
+  tells = LL.tells N.the-type N′.the-laws;
+  typed = λ 𝓤 H A W r w is. LL.lawful N.the-type N′.the-laws 𝓤 H A W .typed r _ is .0;
+  after-is = λ r w is. LL.owed N.the-type N′.the-laws r _ is .1 .1 .1 .1 .0;
+  out-is = λ r w is.
+      let parts = LL.owed N.the-type N′.the-laws r _ is in
+      LL.owes O.the-type O′.the-laws (outcome r) (parts .0, (parts .1 .0, (parts .1 .1 .0, (parts .1 .1 .1 .0, tt))));
+  out-typed = λ 𝓤 H A W x w is. LL.lawful O.the-type O′.the-laws 𝓤 H A W .typed x _ is .0;
+  out-makes = λ 𝓤 H A W. LL.makes O.the-type O′.the-plain 𝓤 H A;
+}
