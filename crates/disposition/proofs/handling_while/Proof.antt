@@ -5,15 +5,12 @@ use Rattle.disposition.proofs.handling_while.Reads as reads
 use Rattle.disposition.proofs.handling_while.Lts as lts
 use Rattle.disposition.proofs.handling_of.Reads as handling-of-reads
 
--- src/lib.rt:98:9
 handling-of-requires : tie.Need-handling-of-requires
 handling-of-requires c κs = search needs
 
--- src/lib.rt:98:9
 returns : tie.Need-returns
 returns c = rw (c .before .if1 .taken) (c .handling-of .ensures)
 
--- src/lib.rt:94:1
 returns-2 : tie.Need-returns-2
 returns-2 c = search needs
 

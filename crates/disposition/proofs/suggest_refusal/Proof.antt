@@ -8,26 +8,21 @@ use Rattle.disposition.proofs.suggest_refusal.Reads as reads
 use Rattle.disposition.proofs.suggest_refusal.Lts as lts
 use Rattle.bodies.proofs.bad_value.Reads as bad-value-reads
 
--- src/lib.rt:108:9
 returns : tie.Need-returns
 unfolding refusalOf
 returns c = rw (c .if1 .taken)
 
--- src/lib.rt:110:8
 bad-value-requires : tie.Need-bad-value-requires
 bad-value-requires c κs = search needs
 
--- src/lib.rt:111:9
 returns-2 : tie.Need-returns-2
 unfolding refusalOf
 returns-2 c = rw (c .before .before .if1 .left, sym (c .before .bad-value .ensures) ∙ c .if2 .taken)
 
--- src/lib.rt:104:1
 returns-3 : tie.Need-returns-3
 unfolding refusalOf
 returns-3 c = rw (c .before .before .before .if1 .left, sym (c .before .before .bad-value .ensures) ∙ c .before .if2 .left, eq-eqb _ _ (c .if3 .taken))
 
--- src/lib.rt:104:1
 returns-4 : tie.Need-returns-4
 unfolding refusalOf
 returns-4 c = rw (c .before .before .before .if1 .left, sym (c .before .before .bad-value .ensures) ∙ c .before .if2 .left, ne-eqb _ _ (c .if3 .left))

@@ -24,16 +24,13 @@ all-right : holdsBelow isRight 256 ≡ true
 unfolding holdsBelow isRight classes classOf oneOf
 all-right = refl
 
--- src/lib.rt:29:5
 element-copy-out-result : tie.Need-element-copy-out-result
 element-copy-out-result c = search needs
 
--- src/lib.rt:29:5
 sub-result : tie.Need-sub-result
 unfolding isRight classes
 sub-result c = leb-true _ _ (both-left _ _ (at-each isRight 256 all-right (c .before .before .args .b) (search needs)))
 
--- src/lib.rt:16:1
 returns : tie.Need-returns
 unfolding isRight classes
 returns c =

@@ -5,31 +5,24 @@ use Rattle.keys.proofs.key_class.Reads as reads
 use Rattle.keys.proofs.key_class.Lts as lts
 use Rattle.keys.proofs.class_of.Reads as class-of-reads
 
--- src/lib.rt:46:19
 enum-known-k : tie.Need-enum-known-k
 enum-known-k c = search needs
 
--- src/lib.rt:46:25
 class-of-requires : tie.Need-class-of-requires
 class-of-requires c κs = search needs
 
--- src/lib.rt:47:22
 enum-told : tie.Need-enum-told
 enum-told c = search needs
 
--- src/lib.rt:48:28
 enum-told-2 : tie.Need-enum-told-2
 enum-told-2 c = search needs
 
--- src/lib.rt:42:1
 returns : tie.Need-returns
 returns c = rw (c .before .before .k .given .1) (c .class-of .ensures)
 
--- src/lib.rt:42:1
 returns-2 : tie.Need-returns-2
 returns-2 c = search needs
 
--- src/lib.rt:42:1
 returns-3 : tie.Need-returns-3
 returns-3 c = search needs
 

@@ -4,39 +4,30 @@ use Rattle.keys.proofs.pack.Tie as tie
 use Rattle.keys.proofs.pack.Reads as reads
 use Rattle.keys.proofs.pack.Lts as lts
 
--- src/lib.rt:129:19
 enum-known-k : tie.Need-enum-known-k
 enum-known-k c = search needs
 
--- src/lib.rt:129:25
 cast-result : tie.Need-cast-result
 cast-result c = search needs
 
--- src/lib.rt:130:22
 enum-told : tie.Need-enum-told
 enum-told c = search needs
 
--- src/lib.rt:131:22
 enum-known-k-2 : tie.Need-enum-known-k-2
 enum-known-k-2 c = search needs
 
--- src/lib.rt:131:34
 cast-result-2 : tie.Need-cast-result-2
 cast-result-2 c = search needs
 
--- src/lib.rt:131:28
 add-result : tie.Need-add-result
 add-result c = search needs
 
--- src/lib.rt:125:1
 returns : tie.Need-returns
 returns c = search needs
 
--- src/lib.rt:125:1
 returns-2 : tie.Need-returns-2
 returns-2 c = search needs
 
--- src/lib.rt:125:1
 returns-3 : tie.Need-returns-3
 returns-3 c = rw (c .before .k2 .given .1)
 

@@ -7,21 +7,17 @@ use Rattle.keys.proofs.prints.Reads as reads
 use Rattle.keys.proofs.prints.Lts as lts
 use Rattle.keys.proofs.class_of.Reads as class-of-reads
 
--- src/lib.rt:94:9
 class-of-requires : tie.Need-class-of-requires
 class-of-requires c κs = search needs
 
--- src/lib.rt:91:1
 returns : tie.Need-returns
 unfolding prints
 returns c = rw (← c .before .class-of .ensures, c .match .keys1)
 
--- src/lib.rt:91:1
 returns-2 : tie.Need-returns-2
 unfolding prints
 returns-2 c = rw (← c .before .class-of .ensures, c .match .keys2)
 
--- src/lib.rt:91:1
 returns-3 : tie.Need-returns-3
 unfolding prints
 returns-3 c = rw (← c .before .class-of .ensures, ne-eqb _ 0 (c .match .rest .0 .1), ne-eqb _ 5 (c .match .rest .1))

@@ -20,58 +20,45 @@ room-line : (c : tie.After-enum-told) → 2 ≤ length (c .before .before .befor
 unfolding keyPaper
 room-line c = rw (c .enum-told .given .1) at (c .before .before .before .pre)
 
--- src/lib.rt:108:19
 enum-known-k : tie.Need-enum-known-k
 enum-known-k c = search needs
 
--- src/lib.rt:109:16
 prints-requires : tie.Need-prints-requires
 prints-requires c κs = search needs
 
--- src/lib.rt:110:17
 slice-write-out : tie.Need-slice-write-out
 slice-write-out c = room-then c
 
--- src/lib.rt:111:17
 same-length : tie.Need-same-length
 same-length c = search needs
 
--- src/lib.rt:111:17
 returns : tie.Need-returns
 unfolding keyPaper
 returns c = rw (c .before .before .before .k .given .1, sym (c .before .prints .ensures) ∙ c .if1 .taken) (wrote-start _ _ (room-then c))
 
--- src/lib.rt:116:13
 enum-told : tie.Need-enum-told
 enum-told c = search needs
 
--- src/lib.rt:116:13
 slice-write-out-2 : tie.Need-slice-write-out-2
 slice-write-out-2 c = omega (arith, room-line c)
 
--- src/lib.rt:117:13
 slice-write-out-3 : tie.Need-slice-write-out-3
 slice-write-out-3 c = simp length-set (omega (arith, room-line c))
 
--- src/lib.rt:120:28
 enum-told-2 : tie.Need-enum-told-2
 enum-told-2 c = search needs
 
--- src/lib.rt:103:1
 returns-2 : tie.Need-returns-2
 unfolding keyPaper
 returns-2 c = rw (c .before .before .before .k .given .1, sym (c .before .prints .ensures) ∙ c .if1 .left) (wrote-none _)
 
--- src/lib.rt:103:1
 same-length-2 : tie.Need-same-length-2
 same-length-2 c = search needs
 
--- src/lib.rt:103:1
 returns-3 : tie.Need-returns-3
 unfolding keyPaper
 returns-3 c = rw (c .enum-told .given .1) (wrote-start _ _ (room-line c))
 
--- src/lib.rt:103:1
 returns-4 : tie.Need-returns-4
 unfolding keyPaper
 returns-4 c = rw (c .enum-told2 .given .1) (wrote-none _)

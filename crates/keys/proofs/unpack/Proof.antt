@@ -6,25 +6,20 @@ use Rattle.keys.proofs.unpack.Tie as tie
 use Rattle.keys.proofs.unpack.Reads as reads
 use Rattle.keys.proofs.unpack.Lts as lts
 
--- src/lib.rt:139:26
 cast-t3 : tie.Need-cast-t3
 cast-t3 c = search needs
 
--- src/lib.rt:139:9
 returns : tie.Need-returns
 unfolding unpacked
 returns c = rw (lt-ltb _ _ (c .if1 .taken))
 
--- src/lib.rt:142:9
 returns-2 : tie.Need-returns-2
 unfolding unpacked
 returns-2 c = rw (le-ltb _ _ (c .before .if1 .left), lt-ltb _ _ (c .if2 .taken))
 
--- src/lib.rt:144:18
 cast-t5 : tie.Need-cast-t5
 cast-t5 c = search needs
 
--- src/lib.rt:135:1
 returns-3 : tie.Need-returns-3
 unfolding unpacked
 returns-3 c = rw (le-ltb _ _ (c .before .if1 .left), le-ltb _ _ (c .if2 .left))

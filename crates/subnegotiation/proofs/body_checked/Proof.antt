@@ -14,29 +14,23 @@ use Rattle.subnegotiation.proofs.body_checked.Lts as lts
 use Rattle.reader.proofs.body_len.Reads as body-len-reads
 use Rattle.subnegotiation.proofs.option_checked.Reads as option-checked-reads
 
--- src/lib.rt:60:9
 returns : tie.Need-returns
 unfolding checked byOption
 returns c = rw (c .if1 .taken)
 
--- src/lib.rt:62:9
 body-len-requires : tie.Need-body-len-requires
 body-len-requires c κs = search needs
 
--- src/lib.rt:64:9
 returns-2 : tie.Need-returns-2
 unfolding checked byOption
 returns-2 c = rw (c .before .before .if1 .left, ← c .before .body-len .ensures, c .if2 .taken)
 
--- src/lib.rt:67:28
 array-read-option-checked : tie.Need-array-read-option-checked
 array-read-option-checked c = search needs
 
--- src/lib.rt:67:5
 option-checked-requires : tie.Need-option-checked-requires
 option-checked-requires c κs = search needs
 
--- src/lib.rt:56:1
 returns-3 : tie.Need-returns-3
 unfolding checked
 returns-3 c =

@@ -4,11 +4,9 @@ use Rattle.subnegotiation.proofs.in_force.Tie as tie
 use Rattle.subnegotiation.proofs.in_force.Reads as reads
 use Rattle.subnegotiation.proofs.in_force.Lts as lts
 
--- src/lib.rt:30:1
 returns : tie.Need-returns
 returns c = search needs
 
--- src/lib.rt:30:1
 returns-2 : tie.Need-returns-2
 returns-2 c = rw (c .if1 .left)
 

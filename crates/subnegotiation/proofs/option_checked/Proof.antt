@@ -11,55 +11,43 @@ use Rattle.negotiation.proofs.is_yes.Reads as rcte-in-force-reads
 use Rattle.subnegotiation.proofs.in_force.Reads as in-force-reads
 use Rattle.subnegotiation.proofs.reads_rcte.Reads as reads-rcte-reads
 
--- src/lib.rt:44:16
 reads-rcte-requires : tie.Need-reads-rcte-requires
 reads-rcte-requires c κs = search needs
 
--- src/lib.rt:45:33
 rcte-in-force-requires : tie.Need-rcte-in-force-requires
 rcte-in-force-requires c κs = search needs
 
--- src/lib.rt:45:17
 in-force-requires : tie.Need-in-force-requires
 in-force-requires c κs = search needs
 
--- src/lib.rt:45:17
 returns : tie.Need-returns
 unfolding optionChecked
 returns c = rw (c .before .before .before .before .match .keys1, sym (c .before .before .before .reads-rcte .ensures) ∙ c .before .before .if1 .taken, c .in-force .ensures, c .before .rcte-in-force .ensures)
 
--- src/lib.rt:49:28
 returns-in-force-requires : tie.Need-returns-in-force-requires
 returns-in-force-requires c κs = search needs
 
--- src/lib.rt:49:19
 in-force-requires-2 : tie.Need-in-force-requires-2
 in-force-requires-2 c κs = search needs
 
--- src/lib.rt:50:24
 macros-in-force-requires : tie.Need-macros-in-force-requires
 macros-in-force-requires c κs = search needs
 
--- src/lib.rt:50:15
 in-force-requires-3 : tie.Need-in-force-requires-3
 in-force-requires-3 c κs = search needs
 
--- src/lib.rt:37:1
 returns-2 : tie.Need-returns-2
 unfolding optionChecked
 returns-2 c = rw (c .before .before .match .keys1, sym (c .before .reads-rcte .ensures) ∙ c .if1 .left)
 
--- src/lib.rt:37:1
 returns-3 : tie.Need-returns-3
 unfolding optionChecked
 returns-3 c = rw (c .before .before .match .keys2, c .in-force2 .ensures, c .before .returns-in-force .ensures)
 
--- src/lib.rt:37:1
 returns-4 : tie.Need-returns-4
 unfolding optionChecked
 returns-4 c = rw (c .before .before .match .keys3, c .in-force3 .ensures, c .before .macros-in-force .ensures)
 
--- src/lib.rt:37:1
 returns-5 : tie.Need-returns-5
 unfolding optionChecked
 returns-5 c = rw (ne-eqb _ 7 (c .match .rest .0 .0 .1), ne-eqb _ 10 (c .match .rest .0 .1), ne-eqb _ 19 (c .match .rest .1))

@@ -9,53 +9,41 @@ use Rattle.printer.proofs.calls.ask.Reads as ask-reads
 use Rattle.printer.proofs.calls.network_byte.Reads as network-byte-reads
 use Rattle.tape.proofs.items.press_pair.Reads as press-pair-reads
 
--- src/items.rt:60:14
 network-byte-requires : tie.Need-network-byte-requires
 network-byte-requires c κs = search needs
 
--- src/items.rt:61:14
 press-pair-requires : tie.Need-press-pair-requires
 press-pair-requires c κs = search needs
 
--- src/items.rt:62:14
 ask-requires : tie.Need-ask-requires
 ask-requires c κs = search needs
 
--- src/items.rt:56:1
 same-length : tie.Need-same-length
 same-length c = search needs
 
--- src/items.rt:56:1
 same-length-2 : tie.Need-same-length-2
 same-length-2 c = search needs
 
--- src/items.rt:56:1
 returns : tie.Need-returns
 unfolding itemOf
 returns c = rw (c .before .before .before .before .before .before .before .match .keys1) (c .before .before .before .before .network-byte .ensures)
 
--- src/items.rt:56:1
 same-length-3 : tie.Need-same-length-3
 same-length-3 c = search needs
 
--- src/items.rt:56:1
 same-length-4 : tie.Need-same-length-4
 same-length-4 c = search needs
 
--- src/items.rt:56:1
 returns-2 : tie.Need-returns-2
 unfolding itemOf
 returns-2 c = rw (c .before .before .before .before .before .before .before .match .keys2) (c .before .before .before .before .press-pair .ensures)
 
--- src/items.rt:56:1
 same-length-5 : tie.Need-same-length-5
 same-length-5 c = search needs
 
--- src/items.rt:56:1
 same-length-6 : tie.Need-same-length-6
 same-length-6 c = search needs
 
--- src/items.rt:56:1
 returns-3 : tie.Need-returns-3
 unfolding itemOf
 returns-3 c =

@@ -10,50 +10,39 @@ use Rattle.codes.proofs.code_number.Reads as code-number-reads
 use Rattle.tape.proofs.items.call_item.Reads as call-item-reads
 use Rattle.tape.proofs.lines.put_shown.Reads as put-shown-reads
 
--- src/items.rt:81:9
 call-item-requires : tie.Need-call-item-requires
 call-item-requires c κs = search needs
 
--- src/items.rt:83:9
 code-number-requires : tie.Need-code-number-requires
 code-number-requires c κs = search needs
 
--- src/items.rt:85:57
 slice-reshare-prefix-put-shown : tie.Need-slice-reshare-prefix-put-shown
 slice-reshare-prefix-put-shown c = within-after (c .before .before .before .before .before .before .call-item .ensures .wrote .paper)
 
--- src/items.rt:85:57
 slice-aggregate-put-shown : tie.Need-slice-aggregate-put-shown
 slice-aggregate-put-shown c = simp length-take (omega (arith, within-after (c .before .before .before .before .before .before .before .call-item .ensures .wrote .paper)))
 
--- src/items.rt:85:81
 slice-reshare-prefix-put-shown-2 : tie.Need-slice-reshare-prefix-put-shown-2
 slice-reshare-prefix-put-shown-2 c = within-after (c .before .before .before .before .before .before .before .call-item .ensures .wrote .wire)
 
--- src/items.rt:85:81
 slice-aggregate-put-shown-2 : tie.Need-slice-aggregate-put-shown-2
 slice-aggregate-put-shown-2 c = simp length-take (omega (arith, within-after (c .before .before .before .before .before .before .before .before .call-item .ensures .wrote .wire)))
 
--- src/items.rt:85:9
 put-shown-requires : tie.Need-put-shown-requires
 put-shown-requires c κs =
     let start = c .before .before .before .before .before .before .before .before .before .before .before .before .before .before .before in
     let call-item = c .before .before .before .before .before .before .before .before .before .call-item in
     rw (read-off (call-item .ensures .wrote .paper), read-off (call-item .ensures .wrote .wire), c .before .before .before .before .code-number .ensures, call-item .ensures .code) (start .pre)
 
--- src/items.rt:67:1
 same-length : tie.Need-same-length
 same-length c = search needs
 
--- src/items.rt:67:1
 same-length-2 : tie.Need-same-length-2
 same-length-2 c = search needs
 
--- src/items.rt:67:1
 same-length-3 : tie.Need-same-length-3
 same-length-3 c = search needs
 
--- src/items.rt:67:1
 returns : tie.Need-returns
 returns c =
     let e = c .before .before .before .before .before .before .before .before .before .before .before .before .call-item .ensures in

@@ -5,17 +5,14 @@ use Rattle.tape.proofs.running.is_over.Tie as tie
 use Rattle.tape.proofs.running.is_over.Reads as reads
 use Rattle.tape.proofs.running.is_over.Lts as lts
 
--- src/running.rt:39:9
 returns : tie.Need-returns
 unfolding isOver
 returns c = rw (c .if1 .taken)
 
--- src/running.rt:42:9
 returns-2 : tie.Need-returns-2
 unfolding isOver
 returns-2 c = rw (c .before .before .if1 .left, lt-ltb _ _ (c .if2 .taken))
 
--- src/running.rt:35:1
 returns-3 : tie.Need-returns-3
 unfolding isOver
 returns-3 c = rw (c .before .before .before .if1 .left, le-ltb _ _ (c .before .if2 .left))

@@ -5,23 +5,18 @@ use Rattle.tape.proofs.running.past_item.Reads as reads
 use Rattle.tape.proofs.running.past_item.Lts as lts
 use Rattle.tape.proofs.running.width.Reads as width-reads
 
--- src/running.rt:88:9
 width-requires : tie.Need-width-requires
 width-requires c κs = search needs
 
--- src/running.rt:91:15
 add-t4 : tie.Need-add-t4
 add-t4 c = search needs
 
--- src/running.rt:93:13
 add-t5 : tie.Need-add-t5
 add-t5 c = search needs
 
--- src/running.rt:94:15
 sub-t6 : tie.Need-sub-t6
 sub-t6 c = search needs
 
--- src/running.rt:82:1
 returns : tie.Need-returns
 returns c = rw (← c .before .before .before .width .ensures)
 

@@ -14,15 +14,12 @@ no-second [] h = refl
 no-second (a ∷ []) h = refl
 no-second (a ∷ b ∷ l) h = absurd (omega arith)
 
--- src/running.rt:68:37
 shared-slice-read-result : tie.Need-shared-slice-read-result
 shared-slice-read-result c = search needs
 
--- src/running.rt:65:1
 returns : tie.Need-returns
 returns c = no-second (c .before .args .bytes .now) (c .if1 .taken)
 
--- src/running.rt:65:1
 returns-2 : tie.Need-returns-2
 returns-2 c = search needs
 

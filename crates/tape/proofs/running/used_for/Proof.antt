@@ -8,11 +8,9 @@ use Rattle.tape.proofs.running.used_for.Tie as tie
 use Rattle.tape.proofs.running.used_for.Reads as reads
 use Rattle.tape.proofs.running.used_for.Lts as lts
 
--- src/running.rt:61:16
 sub-if1 : tie.Need-sub-if1
 sub-if1 c = search needs
 
--- src/running.rt:57:1
 returns : tie.Need-returns
 returns c =
     let a = c .before .args in
@@ -20,7 +18,6 @@ returns c =
     let enough : a .room ≤ a .size - a .used = omega (arith, c .if1 .taken, p .0, p .1) in
     rw (le-ltb (a .size - a .used) (a .room) enough) (refl, omega (arith, c .if1 .taken, p .0, p .1))
 
--- src/running.rt:57:1
 returns-2 : tie.Need-returns-2
 returns-2 c =
     let a = c .before .args in

@@ -4,11 +4,9 @@ use Rattle.tape.proofs.running.width.Tie as tie
 use Rattle.tape.proofs.running.width.Reads as reads
 use Rattle.tape.proofs.running.width.Lts as lts
 
--- src/running.rt:47:1
 returns : tie.Need-returns
 returns c = rw (c .match .keys1)
 
--- src/running.rt:47:1
 returns-2 : tie.Need-returns-2
 returns-2 c = rw (ne-eqb _ 1 (c .match .rest .1))
 
