@@ -4,12 +4,18 @@ use libc::STDOUT_FILENO;
 fn print_file(fd: i32) {
     let mut tape = [0u8; 65537];
     let n = io::read_full(fd, &mut tape);
-    replaying::print_tape(&tape[..n]);
+    if !replaying::print_tape(&tape[..n]) {
+        os::fail(b"standard output");
+    }
 }
 
 fn print_named(i: usize) {
-    let mut path = io::buffer();
+    let mut path = io::large_buffer();
     let n = os::arg(i, &mut path);
+    if os::errno() != 0 {
+        os::fail(b"an argument");
+        return;
+    }
     let fd = os::open_read(&path[..n]);
     if fd < 0 {
         os::fail(&path[..n]);

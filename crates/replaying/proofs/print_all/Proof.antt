@@ -1,16 +1,11 @@
-use Rattle.tape.specs.Steps.{ahead}
-use lib.ListN.{length}
-use native.Mathlib.Omega.{arith}
 use mathlib.Core.Path.{_≡_, refl, sym, _∙_}
+use native.Mathlib.Omega.{arith}
 use borrow.Author.Tests.{not-true}
 use borrow.Author.Needs.{needs}
+use lib.ListN.{length}
+use Rattle.tape.specs.Steps.{ahead}
 use Rattle.replaying.proofs.print_all.Statement.{statement}
 use Rattle.replaying.proofs.print_all.Tie as tie
-use Rattle.replaying.proofs.print_all.Reads as reads
-use Rattle.replaying.proofs.print_all.Lts as lts
-use Rattle.replaying.proofs.print_some.Reads as print-some-reads
-use Rattle.tape.proofs.running.begin.Reads as begin-reads
-use Rattle.tape.proofs.running.is_over.Reads as is-over-reads
 
 abbrev Inv-loop : tie.InvT-loop
 Inv-loop tape out₀ machine₀ out machine = length out ≡ length out₀
@@ -30,17 +25,23 @@ is-over-requires c κs = search needs
 print-some-requires : tie.Need-print-some-requires Inv-loop μ-loop
 print-some-requires c κs = omega (arith, c .before .before .before .loop .inv, c .before .before .before .before .before .before .before .pre)
 
-loop-less : tie.Need-loop-less Inv-loop μ-loop
-loop-less c = c .before .before .print-some .ensures (sym (c .before .before .before .before .before .is-over .ensures) ∙ not-true _ (c .before .before .before .before .if1 .taken))
-
-loop-again : tie.Need-loop-again Inv-loop μ-loop
-loop-again c = c .before .out .given ∙ c .before .before .before .before .before .before .loop .inv
-
 same-length : tie.Need-same-length Inv-loop μ-loop
-same-length c = c .before .before .loop .inv
+same-length c = c .before .before .before .out .given ∙ c .before .before .before .before .before .before .before .before .loop .inv
 
 returns : tie.Need-returns Inv-loop μ-loop
 returns c = tt
+
+loop-less : tie.Need-loop-less Inv-loop μ-loop
+loop-less c = c .before .before .before .before .before .print-some .ensures (sym (c .before .before .before .before .before .before .before .before .is-over .ensures) ∙ not-true _ (c .before .before .before .before .before .before .before .if1 .taken))
+
+loop-again : tie.Need-loop-again Inv-loop μ-loop
+loop-again c = c .before .before .before .before .out .given ∙ c .before .before .before .before .before .before .before .before .before .loop .inv
+
+same-length-2 : tie.Need-same-length-2 Inv-loop μ-loop
+same-length-2 c = c .before .before .loop .inv
+
+returns-2 : tie.Need-returns-2 Inv-loop μ-loop
+returns-2 c = tt
 
 pub print-all-spec : {M : Type 1} → statement M
 print-all-spec =
@@ -52,7 +53,9 @@ print-all-spec =
     loop-holds
     is-over-requires
     print-some-requires
+    same-length
+    returns
     loop-less
     loop-again
-    same-length
-    returns)
+    same-length-2
+    returns-2)
