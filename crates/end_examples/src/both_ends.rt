@@ -1,5 +1,4 @@
 // The two ends joined: what the bulletin end writes is read by the printer end, and what that writes by the bulletin end.
-use crate::output;
 use bulletin::Answer;
 use bulletin::Bulletin;
 use bulletin::Output;

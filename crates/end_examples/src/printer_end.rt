@@ -1,5 +1,4 @@
 // Bench examples of document 01 and the session of its listing, on the printer end's calls.
-use crate::output;
 use keys::Key;
 use printer::Answer;
 use printer::Printer;

@@ -5,7 +5,13 @@ pub mod OneOnWire
 pub mod TwoOnWire
 pub mod ThreeOnWire
 pub mod TextOnWire
+pub mod RecordOfOne
+pub mod RecordOfOneOnWire
+pub mod RecordOfTwoOnWire
+pub mod RecordOfText
 pub mod Question
 pub mod QuestionOfOne
 pub mod PrinterEnd
 pub mod BulletinEnd
+pub mod PrinterAnswers
+pub mod BulletinAnswers

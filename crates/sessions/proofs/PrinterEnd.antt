@@ -12,7 +12,7 @@ use Rattle.printer.proofs.Answer.Laws as N′
 use Rattle.sessions.specs.LentAnswers.{printerAnswer}
 use Rattle.sessions.proofs.PrinterOutcome as O
 use Rattle.sessions.proofs.PrinterOutcome.Laws as O′
-use Rattle.sessions.proofs.Wrappers.{Plainly, Types, Laws, of-struct}
+use Rattle.sessions.proofs.Wrappers.{Plainly, Types, Laws, Joins, of-struct}
 
 abbrev pub types : Types
 types = record { state = P.the-row; answer = N.the-row; outcome = O.the-row; stated = P′.mir; τ₀ = C′.mir; τ₁ = T′.mir; τ₂ = tyInt w64; τ₃ = tyInt w64; answer-name = N.struct .name; outcome-name = O.struct .name }
@@ -42,4 +42,17 @@ laws = record {
       LL.owes O.the-type O′.the-laws (outcome r) (parts .0, (parts .1 .0, (parts .1 .1 .0, (parts .1 .1 .1 .0, tt))));
   out-typed = λ 𝓤 H A W x w is. LL.lawful O.the-type O′.the-laws 𝓤 H A W .typed x _ is .0;
   out-makes = λ 𝓤 H A W. LL.makes O.the-type O′.the-plain 𝓤 H A;
+}
+
+abbrev pub joins : Joins types laws
+joins = record {
+  u₀ = λ o. C′.the-field-laws .val (O.the-type .to o .0);
+  u₁ = λ o. T′.the-field-laws .val (O.the-type .to o .1 .0);
+  u₂ = λ o. vint w64 (o .paper);
+  u₃ = λ o. vint w64 (o .wire);
+  tells = LL.tells O.the-type O′.the-laws;
+  joined-is = λ o w s is kept.
+      let parts = LL.owed O.the-type O′.the-laws o _ is in
+      LL.owes N.the-type N′.the-laws (printerAnswer o s) (parts .0, (parts .1 .0, (parts .1 .1 .0, (parts .1 .1 .1 .0, (kept, tt)))));
+  makes = λ 𝓤 H A W. LL.makes N.the-type N′.the-plain 𝓤 H A;
 }

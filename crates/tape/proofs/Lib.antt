@@ -10,6 +10,5 @@ pub mod ManySteps
 pub mod Numbers
 pub mod Machines
 pub mod Runs
-pub mod Locals
 pub mod Readers
 pub mod Scanned

@@ -1,12 +1,10 @@
 -- `ask` on a lent record does what it does by value.
-use lib.ListN.{length}
 use mir.Syntax.{w8, tyInt}
 use denote.Builtin.{u8}
-use Rattle.bulletin.specs.Calls.{askCall}
-use Rattle.bulletin.specs.Kept.{viewBulletin, MetOnWire}
 use Rattle.sessions.proofs.Wrappers.{of-uint}
-use Rattle.sessions.proofs.TwoOnWire.{Answers, meets}
+use Rattle.sessions.proofs.TwoOnWire.{meets}
 use Rattle.sessions.proofs.BulletinEnd.{types, laws}
+use Rattle.sessions.proofs.BulletinAnswers.{ask as answers}
 use contract.Running.{givenOf, tables, tablesOf}
 use denote.Triple.Spec.{tripleOf}
 use denote.Triple.Table.{entered, cited}
@@ -18,9 +16,6 @@ use Rattle.sessions.proofs.bulletin_end.ask.Key.{name as #outer}
 use Rattle.sessions.proofs.bulletin_end.ask as outer
 use Rattle.sessions.proofs.bulletin_end.ask.Statement as stated
 use Rattle.sessions.proofs.bulletin_end.ask.Code as code
-
-abbrev answers : Answers types u8 u8
-answers s option way wire wire′ r = MetOnWire (askCall (viewBulletin s) option way (length wire)) s wire wire′ r
 
 pub ask-spec : {M : Type 1} → stated.statement M
 unfolding code.routine tablesOf

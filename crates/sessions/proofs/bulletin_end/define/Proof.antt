@@ -1,12 +1,10 @@
 -- `define` on a lent record does what it does by value.
-use lib.ListN.{length}
 use mir.Syntax.{w8, tyInt}
 use denote.Builtin.{u8}
-use Rattle.bulletin.specs.Calls.{defineCall}
-use Rattle.bulletin.specs.Kept.{viewBulletin, MetOnWire}
 use Rattle.sessions.proofs.Wrappers.{of-uint}
-use Rattle.sessions.proofs.TextOnWire.{Answers, meets}
+use Rattle.sessions.proofs.TextOnWire.{meets}
 use Rattle.sessions.proofs.BulletinEnd.{types, laws}
+use Rattle.sessions.proofs.BulletinAnswers.{define as answers}
 use contract.Running.{givenOf, tables, tablesOf}
 use denote.Triple.Spec.{tripleOf}
 use denote.Triple.Table.{entered, cited}
@@ -18,9 +16,6 @@ use Rattle.sessions.proofs.bulletin_end.define.Key.{name as #outer}
 use Rattle.sessions.proofs.bulletin_end.define as outer
 use Rattle.sessions.proofs.bulletin_end.define.Statement as stated
 use Rattle.sessions.proofs.bulletin_end.define.Code as code
-
-abbrev answers : Answers types u8
-answers s x text wire wire′ r = MetOnWire (defineCall (viewBulletin s) x text (length wire)) s wire wire′ r
 
 pub define-spec : {M : Type 1} → stated.statement M
 unfolding code.routine tablesOf

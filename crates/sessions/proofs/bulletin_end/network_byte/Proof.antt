@@ -1,12 +1,10 @@
 -- `network_byte` on a lent record does what it does by value.
-use lib.ListN.{length}
 use mir.Syntax.{w8, tyInt}
 use denote.Builtin.{u8}
-use Rattle.bulletin.specs.Calls.{networkCall}
-use Rattle.bulletin.specs.Kept.{viewBulletin, MetAnswer}
 use Rattle.sessions.proofs.Wrappers.{of-uint}
-use Rattle.sessions.proofs.OneArgument.{Answers, meets}
+use Rattle.sessions.proofs.OneArgument.{meets}
 use Rattle.sessions.proofs.BulletinEnd.{types, laws}
+use Rattle.sessions.proofs.BulletinAnswers.{network-byte as answers}
 use contract.Running.{givenOf, tables, tablesOf}
 use denote.Triple.Spec.{tripleOf}
 use denote.Triple.Table.{entered, cited}
@@ -18,9 +16,6 @@ use Rattle.sessions.proofs.bulletin_end.network_byte.Key.{name as #oute
 use Rattle.sessions.proofs.bulletin_end.network_byte as outer
 use Rattle.sessions.proofs.bulletin_end.network_byte.Statement as stated
 use Rattle.sessions.proofs.bulletin_end.network_byte.Code as code
-
-abbrev answers : Answers types u8
-answers s b host host′ wire wire′ r = MetAnswer (networkCall (viewBulletin s) b (length host) (length wire)) s host host′ wire wire′ r
 
 pub network-byte-spec : {M : Type 1} → stated.statement M
 unfolding code.routine tablesOf

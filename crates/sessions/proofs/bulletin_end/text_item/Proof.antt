@@ -1,12 +1,10 @@
 -- `text_item` on a lent record does what it does by value.
-use lib.ListN.{length}
 use Rattle.keys.proofs.Key as Key
 use Rattle.keys.proofs.Key.Laws as Key′
-use Rattle.bulletin.specs.Calls.{textCall}
-use Rattle.bulletin.specs.Kept.{viewBulletin, MetOnWire}
 use Rattle.sessions.proofs.Wrappers.{of-enum}
-use Rattle.sessions.proofs.OneOnWire.{Answers, meets}
+use Rattle.sessions.proofs.OneOnWire.{meets}
 use Rattle.sessions.proofs.BulletinEnd.{types, laws}
+use Rattle.sessions.proofs.BulletinAnswers.{text-item as answers}
 use contract.Running.{givenOf, tables, tablesOf}
 use denote.Triple.Spec.{tripleOf}
 use denote.Triple.Table.{entered, cited}
@@ -18,9 +16,6 @@ use Rattle.sessions.proofs.bulletin_end.text_item.Key.{name as #outer}
 use Rattle.sessions.proofs.bulletin_end.text_item as outer
 use Rattle.sessions.proofs.bulletin_end.text_item.Statement as stated
 use Rattle.sessions.proofs.bulletin_end.text_item.Code as code
-
-abbrev answers : Answers types Key.the-row
-answers s k wire wire′ r = MetOnWire (textCall (viewBulletin s) k (length wire)) s wire wire′ r
 
 pub text-item-spec : {M : Type 1} → stated.statement M
 unfolding code.routine tablesOf

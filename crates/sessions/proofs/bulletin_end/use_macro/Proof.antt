@@ -1,12 +1,10 @@
 -- `use_macro` on a lent record does what it does by value.
-use lib.ListN.{length}
 use mir.Syntax.{w8, tyInt}
 use denote.Builtin.{u8}
-use Rattle.bulletin.specs.Calls.{useCall}
-use Rattle.bulletin.specs.Kept.{viewBulletin, MetOnWire}
 use Rattle.sessions.proofs.Wrappers.{of-uint}
-use Rattle.sessions.proofs.OneOnWire.{Answers, meets}
+use Rattle.sessions.proofs.OneOnWire.{meets}
 use Rattle.sessions.proofs.BulletinEnd.{types, laws}
+use Rattle.sessions.proofs.BulletinAnswers.{use-macro as answers}
 use contract.Running.{givenOf, tables, tablesOf}
 use denote.Triple.Spec.{tripleOf}
 use denote.Triple.Table.{entered, cited}
@@ -18,9 +16,6 @@ use Rattle.sessions.proofs.bulletin_end.use_macro.Key.{name as #outer}
 use Rattle.sessions.proofs.bulletin_end.use_macro as outer
 use Rattle.sessions.proofs.bulletin_end.use_macro.Statement as stated
 use Rattle.sessions.proofs.bulletin_end.use_macro.Code as code
-
-abbrev answers : Answers types u8
-answers s x wire wire′ r = MetOnWire (useCall (viewBulletin s) x (length wire)) s wire wire′ r
 
 pub use-macro-spec : {M : Type 1} → stated.statement M
 unfolding code.routine tablesOf

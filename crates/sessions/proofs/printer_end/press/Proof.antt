@@ -1,12 +1,10 @@
 -- `press` on a lent record does what it does by value.
-use lib.ListN.{length}
 use Rattle.keys.proofs.Key as Key
 use Rattle.keys.proofs.Key.Laws as Key′
-use Rattle.printer.specs.Calls.{keyCall}
-use Rattle.printer.specs.Kept.{viewPrinter, MetAnswer}
 use Rattle.sessions.proofs.Wrappers.{of-enum}
-use Rattle.sessions.proofs.OneArgument.{Answers, meets}
+use Rattle.sessions.proofs.OneArgument.{meets}
 use Rattle.sessions.proofs.PrinterEnd.{types, laws}
+use Rattle.sessions.proofs.PrinterAnswers.{press as answers}
 use contract.Running.{givenOf, tables, tablesOf}
 use denote.Triple.Spec.{tripleOf}
 use denote.Triple.Table.{entered, cited}
@@ -18,9 +16,6 @@ use Rattle.sessions.proofs.printer_end.press.Key.{name as #outer}
 use Rattle.sessions.proofs.printer_end.press as outer
 use Rattle.sessions.proofs.printer_end.press.Statement as stated
 use Rattle.sessions.proofs.printer_end.press.Code as code
-
-abbrev answers : Answers types Key.the-row
-answers s k paper paper′ wire wire′ r = MetAnswer (keyCall (viewPrinter s) k (length paper) (length wire)) s paper paper′ wire wire′ r
 
 pub press-spec : {M : Type 1} → stated.statement M
 unfolding code.routine tablesOf

@@ -50,7 +50,7 @@ use Rattle.tape.specs.Scanning.{readerAt, foundBy, readerAfter}
 use Rattle.tape.proofs.Found as F
 use Rattle.tape.proofs.Found.Laws as F′
 use Rattle.tape.proofs.TapeReader.Laws as T′
-use Rattle.tape.proofs.Locals.{lendable, back}
+use Rattle.locals.proofs.Locals.{lendable, back}
 use Rattle.tape.proofs.Readers.{tapeVal, readerVal, Row, Shape, laws, TapeOwn}
 use Rattle.tape.proofs.scanning.new as new
 use Rattle.tape.proofs.scanning.new.Symbol as new-def

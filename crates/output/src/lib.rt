@@ -1,4 +1,4 @@
-// What the examples print.
+// What the examples of the ends print: lines of text, and a line for each call.
 ghost use Prim.Native.Nat.{_<_};
 use codes::Code;
 use codes::Note;

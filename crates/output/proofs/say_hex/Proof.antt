@@ -1,8 +1,8 @@
 use lib.ListN.{length}
 use Prim.Native.Nat.{_-_}
 use borrow.Author.Needs.{needs}
-use Rattle.end_examples.proofs.output.say_hex.Statement.{statement}
-use Rattle.end_examples.proofs.output.say_hex.Tie as tie
+use Rattle.output.proofs.say_hex.Statement.{statement}
+use Rattle.output.proofs.say_hex.Tie as tie
 
 abbrev Inv-loop : tie.InvT-loop
 Inv-loop bytes count i₀ i = Unit {0}
