@@ -1,10 +1,9 @@
 -- RCTE's body: 7, cmd, then the break classes if bit 3 is on, the transmission classes if bit 4 is.
-use mathlib.Core.Bool.{Bool, true, false, _||_, not}
+use mathlib.Core.Bool.{Bool, true, false, _||_, not, cond}
 use mathlib.Core.List.{List}
 use Prim.Native.Nat.{ℕ, _+_, _*_, _/_, _%_}
 use lib.ListN.{length, getD}
 use lib.Dec.{ltb, eqb}
-use Rattle.lists.specs.Choice.{pick}
 use Rattle.bodies.specs.declared.Action.{Action}
 use Rattle.bodies.specs.declared.Classes.{Classes}
 use Rattle.bodies.specs.declared.Classes.the-variants.{Same, New}
@@ -42,10 +41,10 @@ classesAt false body at = Same
 
 -- how long a body with an odd cmd is, and where its transmission classes stand
 abbrev pub rcteLength : ℕ → ℕ
-rcteLength cmd = 2 + pick (setsBreaks cmd) 2 0 + pick (setsSends cmd) 2 0
+rcteLength cmd = 2 + cond (setsBreaks cmd) 2 0 + cond (setsSends cmd) 2 0
 
 abbrev pub sendsAt : ℕ → ℕ
-sendsAt cmd = pick (setsBreaks cmd) 4 2
+sendsAt cmd = cond (setsBreaks cmd) 4 2
 
 abbrev pub performed : ℕ → List ℕ → RcteCommand
 performed cmd body = Perform (actionOf cmd) (classesAt (setsBreaks cmd) body 2) (classesAt (setsSends cmd) body (sendsAt cmd))
@@ -53,8 +52,8 @@ performed cmd body = Perform (actionOf cmd) (classesAt (setsBreaks cmd) body 2) 
 -- an even cmd repeats the last action and stands alone; an odd one over 31 or a wrong length is unreadable
 abbrev pub rcteShape : ℕ → List ℕ → RcteBody
 rcteShape cmd body =
-    pick (eqb (cmd % 2) 0) (pick (eqb (length body) 2) (Readable Repeat) Unreadable)
-    (pick (ltb 31 cmd || not (eqb (length body) (rcteLength cmd))) Unreadable (Readable (performed cmd body)))
+    cond (eqb (cmd % 2) 0) (cond (eqb (length body) 2) (Readable Repeat) Unreadable)
+    (cond (ltb 31 cmd || not (eqb (length body) (rcteLength cmd))) Unreadable (Readable (performed cmd body)))
 
 unfoldable pub rcteBody : List ℕ → RcteBody
-rcteBody body = pick (ltb (length body) 2) Unreadable (rcteShape (getD body 1 0) body)
+rcteBody body = cond (ltb (length body) 2) Unreadable (rcteShape (getD body 1 0) body)

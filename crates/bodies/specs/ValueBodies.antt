@@ -1,10 +1,9 @@
 -- NAOCRD's body: 10, who speaks (1 the data sender, 0 the data receiver), the value.
-use mathlib.Core.Bool.{Bool, _||_, _&&_, not}
+use mathlib.Core.Bool.{Bool, _||_, _&&_, not, cond}
 use mathlib.Core.List.{List}
 use Prim.Native.Nat.{ℕ}
 use lib.ListN.{length, getD}
 use lib.Dec.{eqb}
-use Rattle.lists.specs.Choice.{pick}
 use Rattle.bodies.specs.declared.ValueBody.{ValueBody}
 use Rattle.bodies.specs.declared.ValueBody.the-variants.{Readable, Unreadable}
 
@@ -16,4 +15,4 @@ abbrev pub isValue : ℕ → List ℕ → Bool
 isValue who body = eqb (length body) 3 && eqb (getD body 1 0) who && not (isBadValue (getD body 2 0))
 
 unfoldable pub valueBody : ℕ → List ℕ → ValueBody
-valueBody who body = pick (isValue who body) (Readable (getD body 2 0)) Unreadable
+valueBody who body = cond (isValue who body) (Readable (getD body 2 0)) Unreadable

@@ -1,9 +1,8 @@
 // The parsed bodies of RCTE, BM and NAOCRD. One case of each is for a body of the wrong shape.
 ghost use mathlib.Core.Path.{_≡_};
-ghost use mathlib.Core.Bool.{true};
+ghost use mathlib.Core.Bool.{true, cond};
 ghost use Prim.Native.Nat.{_+_, _<_};
 ghost use lib.ListN.{length};
-ghost use Rattle.lists.specs.Choice.{pick};
 ghost use Rattle.bodies.specs.RcteBodies.{bit, setsBreaks, setsSends, actionOf, pairAt, classesAt, rcteLength, performed, rcteBody};
 ghost use Rattle.bodies.specs.MacroBodies.{macroBody, replyBody};
 ghost use Rattle.bodies.specs.ValueBodies.{isBadValue, valueBody};
@@ -108,7 +107,7 @@ pub fn sets_sends(cmd: u8) -> bool
 
 // A class pair takes two bytes where its bit is on.
 fn pair_length(set: bool) -> usize
-    ensures { λ r. ⌜ r ≡ pick set 2 0 ⌝ }
+    ensures { λ r. ⌜ r ≡ cond set 2 0 ⌝ }
 {
     if set { 2 } else { 0 }
 }
@@ -213,7 +212,7 @@ pub fn reply_body(body: &[u8]) -> ReplyBody
 }
 
 fn reply_of(shaped: bool, reply: MacroReply) -> ReplyBody
-    ensures { λ r. ⌜ r ≡ pick shaped (ReplyBody.Readable reply) ReplyBody.Unreadable ⌝ }
+    ensures { λ r. ⌜ r ≡ cond shaped (ReplyBody.Readable reply) ReplyBody.Unreadable ⌝ }
 {
     if shaped {
         ReplyBody::Readable(reply)

@@ -1,25 +1,26 @@
--- No call of the bulletin end leaves ECHO and RCTE both away from NO: its sides change by the table's steps alone.
+-- The bulletin end's sides change by negotiation alone, which keeps ECHO and RCTE apart.
 use mathlib.Core.Path.{_≡_, refl, subst}
 use mathlib.Core.List.{List}
 use Prim.Native.Nat.{ℕ}
-use Rattle.negotiation.specs.declared.Standing.{Standing}
+use Rattle.negotiation.specs.declared.End.{End}
+use Rattle.negotiation.specs.declared.OptionState.{OptionState}
 use Rattle.negotiation.specs.declared.Side.{Side}
 use Rattle.negotiation.specs.declared.Side.the-variants.{Echo, BulletinSga, Rcte, Macro, PrinterSga, Returns, Uncarried}
-use Rattle.negotiation.specs.Table.{heard}
-use Rattle.negotiation.specs.Carried.{standing, moved, free}
-use Rattle.negotiation.specs.Apart.{Apart}
+use Rattle.negotiation.specs.Carried.{moved}
+use Rattle.negotiation.specs.Apart.{Reached}
+use Rattle.negotiation.specs.Apart.Reached.{first}
 use Rattle.bodies.specs.declared.MacroReply.{MacroReply}
 use Rattle.bodies.specs.declared.MacroReply.the-variants.{Accept, Refuse, PleaseCancel}
-use Rattle.bulletin.specs.State.{Bulletin, fresh}
-use Rattle.bulletin.specs.Network.{sideMoved, replied}
+use Rattle.bulletin.specs.State.{BulletinState, fresh}
+use Rattle.bulletin.specs.Network.{sideMoved, macroReplied}
 use Rattle.bulletin.specs.Apart.{StayApart}
-use Rattle.negotiation.proofs.Apart.{apart-at-first, heard-keeps-apart, asked-keeps-apart}
+use Rattle.negotiation.proofs.Apart as N
 use Rattle.bulletin.proofs.Invariant.{Steps, answers-kept}
 
-abbrev ApartIn : Bulletin → Type 0
-ApartIn s = Apart (s .sides)
+abbrev ReachedIn : BulletinState → Type 0
+ReachedIn s = Reached End.Bulletin (s .sides)
 
-moved-as : (s : Bulletin) (side : Side) (q : Standing) (reply : List ℕ) → moved (s .sides) side q ≡ sideMoved s side q reply .state .sides
+moved-as : (s : BulletinState) (side : Side) (q : OptionState) (reply : List ℕ) → moved (s .sides) side q ≡ sideMoved s side q reply .state .sides
 unfolding sideMoved
 moved-as s Macro q reply = refl
 moved-as s Returns q reply = refl
@@ -29,21 +30,18 @@ moved-as s BulletinSga q reply = refl
 moved-as s PrinterSga q reply = refl
 moved-as s Uncarried q reply = refl
 
-replies-apart : (s : Bulletin) (r : MacroReply) → ApartIn s → ApartIn (replied s r .state)
-replies-apart s (Accept x) a = a
-replies-apart s (Refuse x) a = a
-replies-apart s (PleaseCancel x) a = a
+replies-reached : (s : BulletinState) (r : MacroReply) → ReachedIn s → ReachedIn (macroReplied s r .state)
+replies-reached s (Accept x) h = h
+replies-reached s (Refuse x) h = h
+replies-reached s (PleaseCancel x) h = h
 
-apart-steps : Steps ApartIn
-apart-steps = record {
-  others = λ e f a. subst Apart e a;
-  hears = λ s side enable reply a.
-      subst Apart (moved-as s side (heard enable (free (s .sides) side) (standing (s .sides) side) .next) reply)
-      (heard-keeps-apart (s .sides) side enable a);
-  asks = λ s side enable q r reply c e a. subst Apart (moved-as s side q reply) (asked-keeps-apart (s .sides) side enable q r a c e);
-  replies = replies-apart;
-  defines = λ s x t w n a. a;
+reached-steps : Steps ReachedIn
+reached-steps = record {
+  others = λ e f r. subst (Reached End.Bulletin) e r;
+  moves = λ s side q reply goes r. subst (Reached End.Bulletin) (moved-as s side q reply) (goes r);
+  replies = replies-reached;
+  defines = λ s x t w n r. r;
 }
 
 pub stay-apart : StayApart
-stay-apart cs a m = answers-kept ApartIn apart-steps fresh cs apart-at-first a m
+stay-apart cs a m = N.stay-apart End.Bulletin (a .effect .state .sides) (answers-kept ReachedIn reached-steps fresh cs first a m)

@@ -1,7 +1,7 @@
 -- Clean states with the same view.
 use mathlib.Core.Path.{ap}
 use Rattle.reader.proofs.Determined.{same-reader}
-use Rattle.definitions.proofs.Determined.{clean-determined}
+use Rattle.sent_macros.proofs.Determined.{clean-determined}
 use Rattle.bulletin.specs.Determined.{DeterminedToTheByte}
 
 pub determined-to-the-byte : DeterminedToTheByte

@@ -8,19 +8,19 @@ use lib.Seq.{set-getD}
 use borrow.Author.Tests.{not-false}
 use Rattle.lists.proofs.Lengths.{chosen}
 use Rattle.lists.proofs.Uniform.{getD-uniform}
-use Rattle.negotiation.specs.declared.Standing.{Standing}
+use Rattle.negotiation.specs.declared.OptionState.{OptionState}
 use Rattle.negotiation.specs.declared.Side.{Side}
 use Rattle.negotiation.specs.declared.Side.the-variants.{Echo, BulletinSga, Rcte, Macro, PrinterSga, Returns, Uncarried}
 use Rattle.negotiation.specs.Table.{isYes}
 use Rattle.bodies.specs.declared.MacroReply.{MacroReply}
 use Rattle.bodies.specs.declared.MacroReply.the-variants.{Accept, Refuse, PleaseCancel}
-use Rattle.definitions.specs.Sending.{Sent, free, noDefinitions, sentOf, isAccepted}
-use Rattle.bulletin.specs.State.{Bulletin, fresh, macrosOn, Did}
-use Rattle.bulletin.specs.Network.{sideMoved, replied}
+use Rattle.sent_macros.specs.Sending.{Sent, free, noDefinitions, sentOf, isAccepted}
+use Rattle.bulletin.specs.State.{BulletinState, fresh, bmInForce, Effect}
+use Rattle.bulletin.specs.Network.{sideMoved, macroReplied}
 use Rattle.bulletin.specs.EmptyTable.{EmptyWhileOff, TableEmptied}
 use Rattle.bulletin.proofs.Invariant.{Steps, answers-kept}
 
-side-empty : (s : Bulletin) (side : Side) (q : Standing) (reply : List ℕ) → EmptyWhileOff s → EmptyWhileOff (sideMoved s side q reply .state)
+side-empty : (s : BulletinState) (side : Side) (q : OptionState) (reply : List ℕ) → EmptyWhileOff s → EmptyWhileOff (sideMoved s side q reply .state)
 unfolding sideMoved
 side-empty s Macro q reply h = λ off. rw off
 side-empty s Returns q reply h = h
@@ -35,7 +35,7 @@ same-entry : (x : ℕ) (v : Sent) → v ≡ free → set noDefinitions x v ≡ n
 same-entry x v e = rw (e ∙ sym (getD-uniform 256 x free)) (set-getD noDefinitions x free)
 
 -- in an empty table no byte is pending or accepted, so that an answer about one changes nothing
-replies-empty : (s : Bulletin) (r : MacroReply) → EmptyWhileOff s → EmptyWhileOff (replied s r .state)
+replies-empty : (s : BulletinState) (r : MacroReply) → EmptyWhileOff s → EmptyWhileOff (macroReplied s r .state)
 replies-empty s (Accept x) h = λ off. rw (h off) (same-entry x _ (rw (getD-uniform 256 x free)))
 replies-empty s (Refuse x) h = λ off. rw (h off) (same-entry x _ (rw (getD-uniform 256 x free)))
 replies-empty s (PleaseCancel x) h = λ off. rw (h off, getD-uniform 256 x free)
@@ -43,10 +43,9 @@ replies-empty s (PleaseCancel x) h = λ off. rw (h off, getD-uniform 256 x free)
 empty-steps : Steps EmptyWhileOff
 empty-steps = record {
   others = λ e f h off. sym f ∙ h (ap (λ x. isYes (x .bm)) e ∙ off);
-  hears = λ s side enable reply h. side-empty s side _ reply h;
-  asks = λ s side enable q r reply c e h. side-empty s side q reply h;
+  moves = λ s side q reply reached h. side-empty s side q reply h;
   replies = replies-empty;
-  defines = λ s x t w n h off. absurd (false≢true (sym off ∙ not-false (macrosOn s) (n .1 .0)));
+  defines = λ s x t w n h off. absurd (false≢true (sym off ∙ not-false (bmInForce s) (n .1 .0)));
 }
 
 pub table-emptied : TableEmptied

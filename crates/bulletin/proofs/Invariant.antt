@@ -7,17 +7,15 @@ use mathlib.Core.List.{List, [], _∷_, List·Memᴰ, List·Memᴰ·not-nil, Lis
 use Prim.Native.Nat.{ℕ}
 use Rattle.lists.proofs.Lengths.{chosen}
 use Rattle.codes.specs.Answers.{Guard, guarded}
-use Rattle.codes.specs.Telnet.{DR, enables}
+use Rattle.codes.specs.Telnet.{DR}
 use Rattle.codes.specs.declared.Verb.{Verb}
-use Rattle.codes.specs.declared.Whose.{Whose}
 use Rattle.negotiation.specs.declared.End.{End}
-use Rattle.negotiation.specs.declared.Standing.{Standing}
-use Rattle.negotiation.specs.declared.Reply.{Reply}
-use Rattle.negotiation.specs.declared.Asked.the-variants.{Moves}
+use Rattle.negotiation.specs.declared.OptionState.{OptionState}
 use Rattle.negotiation.specs.declared.Side.{Side}
-use Rattle.negotiation.specs.declared.Turn.{Turn}
-use Rattle.negotiation.specs.Table.{heard, asked}
-use Rattle.negotiation.specs.Carried.{standing, free, clashes, replyBytes, askedSide, askedWhose, askedEnable}
+use Rattle.negotiation.specs.declared.Asking.{Asking}
+use Rattle.negotiation.specs.Carried.{moved, replyBytes, askedSide, askedWhose, askedEnable, askingOf, askedBy}
+use Rattle.negotiation.specs.Apart.{Reached}
+use Rattle.negotiation.specs.Apart.Reached.{hears, asks}
 use Rattle.reader.specs.declared.Item.{Item}
 use Rattle.reader.specs.declared.Item.the-variants.{Nothing, Data, Negotiated, BodyEnd, StrayCommand}
 use Rattle.reader.specs.Reading.{idle, read}
@@ -26,37 +24,32 @@ use Rattle.bodies.specs.declared.ReplyBody.{ReplyBody}
 use Rattle.bodies.specs.declared.ValueBody.{ValueBody}
 use Rattle.bodies.specs.MacroBodies.{replyBody}
 use Rattle.bodies.specs.ValueBodies.{valueBody}
-use Rattle.definitions.specs.Sending.{defining}
-use Rattle.bulletin.specs.State.{Bulletin, withReader, withTable, Did, Answer, refused}
-use Rattle.bulletin.specs.Network.{dataRead, sideMoved, negotiationRead, replied, replyRead, valueRead, bodyHandled, bodyRead, itemRead, networkRead}
+use Rattle.sent_macros.specs.Sending.{defining}
+use Rattle.bulletin.specs.State.{BulletinState, withReader, withTable, Effect, CallEffect, done, refused}
+use Rattle.bulletin.specs.Network.{dataRead, sideMoved, negotiationRead, macroReplied, replyRead, valueRead, bodyHandled, bodyRead, itemRead, networkRead}
 use Rattle.bulletin.specs.Calls.{networkCall, askOf, askCall, suggestCall, orderCall, defineGuards, defineCall, useCall, itemSent, textCall}
 use Rattle.bulletin.specs.Session.{Call, network, ask, suggest, order, define, useMacro, text, called, answersFrom}
 use Rattle.codes.proofs.Guards.{NoneHolds}
-use Rattle.negotiation.proofs.Outcomes.{heard-cases, asked-cases}
 use Rattle.subnegotiation.specs.declared.Checked.{Checked}
 use Rattle.subnegotiation.specs.declared.Checked.the-variants.{Noted}
 use Rattle.subnegotiation.specs.Checks.{checked}
 
--- the steps that change sides or table: what is heard and asked of a side, an answer about a macro, a DEFINE
-pub record Steps (P : Bulletin → Type 0) : Type 0 where
-  pub others : {s t : Bulletin} → s .sides ≡ t .sides → s .table ≡ t .table → P s → P t
-  pub hears : (s : Bulletin) (side : Side) (enable : Bool) (reply : List ℕ) → P s
-      → P (sideMoved s side (heard enable (free (s .sides) side) (standing (s .sides) side) .next) reply .state)
-  pub asks : (s : Bulletin) (side : Side) (enable : Bool) (q : Standing) (r : Reply) (reply : List ℕ)
-      → clashes (s .sides) side enable ≡ false → asked enable (standing (s .sides) side) ≡ Moves q r → P s → P (sideMoved s side q reply .state)
-  pub replies : (s : Bulletin) (r : MacroReply) → P s → P (replied s r .state)
-  pub defines : (s : Bulletin) (x : ℕ) (t : List ℕ) (w : ℕ) → NoneHolds (defineGuards s x t w) → P s → P (withTable s (defining (s .table) x t))
+-- the steps that change sides or table: a side moves by a negotiation received or an ask, an answer about a macro, a DEFINE
+pub record Steps (P : BulletinState → Type 0) : Type 0 where
+  pub others : {s t : BulletinState} → s .sides ≡ t .sides → s .table ≡ t .table → P s → P t
+  pub moves : (s : BulletinState) (side : Side) (q : OptionState) (reply : List ℕ)
+      → (Reached End.Bulletin (s .sides) → Reached End.Bulletin (moved (s .sides) side q)) → P s → P (sideMoved s side q reply .state)
+  pub replies : (s : BulletinState) (r : MacroReply) → P s → P (macroReplied s r .state)
+  pub defines : (s : BulletinState) (x : ℕ) (t : List ℕ) (w : ℕ) → NoneHolds (defineGuards s x t w) → P s → P (withTable s (defining (s .table) x t))
 
-module _ (P : Bulletin → Type 0) (k : Steps P) where
-  abbrev Leaves : Did → Type 0
+module _ (P : BulletinState → Type 0) (k : Steps P) where
+  abbrev Leaves : Effect → Type 0
   Leaves d = P (d .state)
 
-  module _ (s : Bulletin) (h : P s) where
+  module _ (s : BulletinState) (h : P s) where
     heard-kept : (v : Verb) (option : ℕ) → Leaves (negotiationRead s v option)
-    unfolding negotiationRead sideMoved
-    heard-kept v option =
-        heard-cases (λ (t : Turn). Leaves (sideMoved s (t .side) (t .next) (replyBytes (t .whose) (t .reply) option))) End.Bulletin (s .sides) v option
-        (λ side. k .hears s side (enables v) [] h) h
+    unfolding negotiationRead
+    heard-kept v option = k .moves s _ _ _ (λ r. hears r v option) h
 
     reply-kept : (r : ReplyBody) → Leaves (replyRead s r)
     reply-kept ReplyBody.Unreadable = h
@@ -76,18 +69,25 @@ module _ (P : Bulletin → Type 0) (k : Steps P) where
     unfolding bodyRead
     body-kept marred body = handled-kept body (checked End.Bulletin (s .sides) marred body)
 
-    asked-kept : (whose : Whose) (option : ℕ) (side : Side) (enable : Bool) → Leaves (askOf s option whose side enable .did)
-    asked-kept whose option side enable =
-        asked-cases (λ (a : Answer). Leaves (a .did)) (s .sides) side enable _ _ (λ c. h) (λ q r c e. k .asks s side enable q r _ c e h)
+    asked-kept : (option way : ℕ) → Leaves (askOf s option (askedWhose way) (askedSide End.Bulletin option way) (askedEnable way) .effect)
+    asked-kept option way = go (askingOf (s .sides) side (askedEnable way)) refl
+      where
+        side : Side
+        side = askedSide End.Bulletin option way
+
+        go : (a : Asking) → askingOf (s .sides) side (askedEnable way) ≡ a
+            → Leaves (askedBy (refused s) (λ q r. done (sideMoved s side q (replyBytes (askedWhose way) r option))) a .effect)
+        go (Asking.Refused c) e = h
+        go (Asking.Moves q r) e = k .moves s side q _ (λ reached. asks reached option way q r e) h
 
     -- a refusal returns the state that it was given
-    guarded-kept : (gs : List Guard) (a : Answer) → (NoneHolds gs → Leaves (a .did)) → Leaves (guarded gs (refused s) a .did)
+    guarded-kept : (gs : List Guard) (a : CallEffect) → (NoneHolds gs → Leaves (a .effect)) → Leaves (guarded gs (refused s) a .effect)
     unfolding guarded
     guarded-kept [] a f = f tt
     guarded-kept (g ∷ gs) a f =
-        chosen (λ (a : Answer). Leaves (a .did)) (g .holds) (λ e. h) (λ e. guarded-kept gs a (λ n. f (e, n)))
+        chosen (λ (a : CallEffect). Leaves (a .effect)) (g .holds) (λ e. h) (λ e. guarded-kept gs a (λ n. f (e, n)))
 
-  item-kept : (s : Bulletin) (i : Item) → P s → Leaves (itemRead s i)
+  item-kept : (s : BulletinState) (i : Item) → P s → Leaves (itemRead s i)
   unfolding dataRead
   item-kept s Nothing h = h
   item-kept s (Data b) h = k .others refl refl h
@@ -95,15 +95,15 @@ module _ (P : Bulletin → Type 0) (k : Steps P) where
   item-kept s BodyEnd h = body-kept (withReader s idle) (k .others refl refl h) (s .reader .marred) (s .reader .body)
   item-kept s StrayCommand h = h
 
-  network-kept : (s : Bulletin) (b : ℕ) → P s → Leaves (networkRead s b)
+  network-kept : (s : BulletinState) (b : ℕ) → P s → Leaves (networkRead s b)
   unfolding networkRead
   network-kept s b h = let r = read (s .reader) b in item-kept (withReader s (r .reader)) (r .item) (k .others refl refl h)
 
-  pub call-kept : (s : Bulletin) (c : Call) → P s → P (called s c .did .state)
+  pub call-kept : (s : BulletinState) (c : Call) → P s → P (called s c .effect .state)
   unfolding called networkCall askCall suggestCall orderCall defineCall useCall textCall itemSent
   call-kept s (network b a w) h = guarded-kept s h _ _ (λ n. network-kept s b h)
   call-kept s (ask o y w) h =
-      guarded-kept s h _ _ (λ n. asked-kept s h (askedWhose y) o (askedSide End.Bulletin o y) (askedEnable y))
+      guarded-kept s h _ _ (λ n. asked-kept s h o y)
   call-kept s (suggest v w) h = guarded-kept s h _ _ (λ n. k .others refl refl h)
   call-kept s (order c bc tc w) h = guarded-kept s h _ _ (λ n. h)
   call-kept s (define x t w) h = guarded-kept s h _ _ (λ n. k .defines s x t w n h)
@@ -111,12 +111,12 @@ module _ (P : Bulletin → Type 0) (k : Steps P) where
   call-kept s (text i w) h = guarded-kept s h _ _ (λ n. k .others refl refl h)
 
   -- and so does every answer to a list of calls
-  pub answers-kept : (s : Bulletin) (cs : List Call) → P s → (a : Answer) → List·Memᴰ a (answersFrom s cs) → Leaves (a .did)
+  pub answers-kept : (s : BulletinState) (cs : List Call) → P s → (a : CallEffect) → List·Memᴰ a (answersFrom s cs) → Leaves (a .effect)
   unfolding answersFrom
   answers-kept s [] h a m = absurd (List·Memᴰ·not-nil m)
   answers-kept s (c ∷ cs) h a m =
       let n = call-kept s c h in
       ⊎-elim
       (λ (e : a ≡ called s c). rw e n)
-      (λ (r : List·Memᴰ a (answersFrom (called s c .did .state) cs)). answers-kept (called s c .did .state) cs n a r)
+      (λ (r : List·Memᴰ a (answersFrom (called s c .effect .state) cs)). answers-kept (called s c .effect .state) cs n a r)
       (List·Memᴰ·cases-cons m)

@@ -4,7 +4,7 @@ use mathlib.Core.Bool.{true, false, false≢true}
 use Rattle.keys.specs.declared.Key.{Key}
 use Rattle.keys.specs.declared.Key.the-variants.{Char, Line, Command}
 use Rattle.keys.specs.Keys.{isCommand, keyWire}
-use Rattle.definitions.specs.Sending.{Definitions, allDataBytes}
+use Rattle.sent_macros.specs.Sending.{Definitions, allDataBytes}
 use Rattle.disposition.specs.declared.Handling.{Handling}
 use Rattle.disposition.specs.Returns.{itemData}
 use Rattle.bulletin.specs.Calls.{itemBytes}

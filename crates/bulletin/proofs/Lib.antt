@@ -9,3 +9,4 @@ pub mod Rooms
 pub mod Bodies
 pub mod ItemBytes
 pub mod Determined
+pub mod FreshBulletin

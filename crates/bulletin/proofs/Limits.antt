@@ -22,9 +22,9 @@ use Rattle.bodies.specs.declared.ReplyBody.{ReplyBody}
 use Rattle.bodies.specs.declared.ValueBody.{ValueBody}
 use Rattle.bodies.specs.MacroBodies.{replyBody}
 use Rattle.bodies.specs.ValueBodies.{isBadValue, valueBody}
-use Rattle.definitions.specs.Sending.{Definitions, sentOf, isPending, isAccepted, isTooLong, definingBytes}
-use Rattle.bulletin.specs.State.{Bulletin, withReader, macrosOn, returnsOn, rcteOn, handlingNow, definitionsNow, sends, nothing, notes, Answer}
-use Rattle.bulletin.specs.Network.{dataRead, sideMoved, negotiationRead, replied, replyRead, valueRead, bodyHandled, bodyRead, itemRead, networkRead}
+use Rattle.sent_macros.specs.Sending.{Definitions, sentOf, isPending, isAccepted, isTooLong, definingBytes}
+use Rattle.bulletin.specs.State.{BulletinState, withReader, bmInForce, naocrdInForce, rcteInForce, handlingNow, definitionsNow, sends, nothing, notes, CallEffect}
+use Rattle.bulletin.specs.Network.{dataRead, sideMoved, negotiationRead, macroReplied, replyRead, valueRead, bodyHandled, bodyRead, itemRead, networkRead}
 use Rattle.bulletin.specs.Calls.{networkCall, askCall, suggestCall, badOrder, orderCall, defineCall, useCall, itemSent, textCall}
 use Rattle.bulletin.specs.Session.{network, ask, suggest, order, define, useMacro, text, called}
 use Rattle.bulletin.specs.Limits.{FitsWire, Fits, NetworkFits, MoveFits, SuggestionFits, OrderFits, DefineFits, ItemFits, CallFits}
@@ -35,10 +35,10 @@ use Rattle.subnegotiation.specs.declared.Checked.the-variants.{Noted}
 use Rattle.subnegotiation.specs.Checks.{checked}
 use Rattle.bulletin.proofs.LimitsBytes.{frame-long, define-long, cancel-long, order-long, item-long, stored-long}
 
-sent : {bytes : List ℕ} {s : Bulletin} → FitsWire bytes → Fits (sends bytes s)
+sent : {bytes : List ℕ} {s : BulletinState} → FitsWire bytes → Fits (sends bytes s)
 sent l = record { host = lit≤ tt; wire = l }
 
-noted : {n : Note} {s : Bulletin} → Fits (notes n s)
+noted : {n : Note} {s : BulletinState} → Fits (notes n s)
 noted = record { host = lit≤ tt; wire = lit≤ tt }
 
 pub move-fits : MoveFits
@@ -52,14 +52,14 @@ move-fits s PrinterSga q reply l = sent (omega arith)
 move-fits s Uncarried q reply l = sent (omega arith)
 
 -- what a negotiation comes to is answered by three bytes at most
-negotiation-fits : (s : Bulletin) (v : Verb) (option : ℕ) → Fits (negotiationRead s v option)
+negotiation-fits : (s : BulletinState) (v : Verb) (option : ℕ) → Fits (negotiationRead s v option)
 unfolding negotiationRead
 negotiation-fits s v option =
     let t = heardBy End.Bulletin (s .sides) v option in
     move-fits s (t .side) (t .next) (replyBytes (t .whose) (t .reply) option) (reply-long (t .whose) (t .reply) option)
 
-module _ (s : Bulletin) where
-  replied-fits : (r : MacroReply) → Fits (replied s r)
+module _ (s : BulletinState) where
+  replied-fits : (r : MacroReply) → Fits (macroReplied s r)
   replied-fits (Accept x) = sent (lit≤ tt)
   replied-fits (Refuse x) = sent (lit≤ tt)
   replied-fits (PleaseCancel x) = sent (either FitsWire (isAccepted (sentOf (s .table) x)) (omega (arith, cancel-long x)) (lit≤ tt))
@@ -82,7 +82,7 @@ module _ (s : Bulletin) where
   unfolding bodyRead
   body-fits marred body = handled-fits body (checked End.Bulletin (s .sides) marred body)
 
-read-fits : (s : Bulletin) (i : Item) → Fits (itemRead s i)
+read-fits : (s : BulletinState) (i : Item) → Fits (itemRead s i)
 unfolding dataRead
 read-fits s Nothing = sent (lit≤ tt)
 read-fits s (Data b) = record { host = lit≤ tt; wire = lit≤ tt }
@@ -111,11 +111,11 @@ pub item-fits : ItemFits
 unfolding itemSent
 item-fits s k = sent (omega (arith, item-long (definitionsNow s) (handlingNow s) k))
 
-abbrev Fitting : Answer → Type 0
-Fitting a = Fits (a .did)
+abbrev Fitting : CallEffect → Type 0
+Fitting a = Fits (a .effect)
 
 -- a refusal, or an ask that changes nothing
-refuses : (s : Bulletin) → Fits (nothing s)
+refuses : (s : BulletinState) → Fits (nothing s)
 refuses s = sent (lit≤ tt)
 
 pub call-fits : CallFits
@@ -127,22 +127,22 @@ call-fits s (ask o y w) =
     (asked-cases Fitting (s .sides) side (askedEnable y) _ _ (λ c. refuses s) (λ q r n e. move-fits s side q (replyBytes (askedWhose y) r o) (reply-long (askedWhose y) r o)))
 call-fits s (suggest v w) =
     either Fitting (noWire w) (refuses s)
-    (either Fitting (not (returnsOn s)) (refuses s)
+    (either Fitting (not (naocrdInForce s)) (refuses s)
     (either Fitting (isBadValue v) (refuses s)
     (either Fitting (eqb v (s .values .ds)) (refuses s) (sent (suggestion-fits v)))))
 call-fits s (order c bc tc w) =
     either Fitting (noWire w) (refuses s)
-    (either Fitting (not (rcteOn s)) (refuses s)
+    (either Fitting (not (rcteInForce s)) (refuses s)
     (either Fitting (badOrder c) (refuses s) (sent (order-fits c bc tc))))
 call-fits s (define x t w) =
     either Fitting (noWire w) (refuses s)
-    (either Fitting (not (macrosOn s)) (refuses s)
+    (either Fitting (not (bmInForce s)) (refuses s)
     (either Fitting (eqb x IAC) (refuses s)
     (either Fitting (isPending (sentOf (s .table) x)) (refuses s)
     (chosen Fitting (isTooLong (s .table) x t) (λ e. refuses s) (λ e. sent (define-fits (s .table) x t e))))))
 call-fits s (useMacro x w) =
     either Fitting (noWire w) (refuses s)
-    (either Fitting (not (macrosOn s)) (refuses s)
+    (either Fitting (not (bmInForce s)) (refuses s)
     (either Fitting (s .awaiting) (refuses s)
     (either Fitting (not (isAccepted (sentOf (s .table) x))) (refuses s) (sent (lit≤ tt)))))
 call-fits s (text k w) =

@@ -1,31 +1,30 @@
 -- How long the bytes are that the bulletin end sends: frames, definitions, orders and the data of a text item.
 use mathlib.Core.Path.{_≡_, refl}
-use mathlib.Core.Bool.{Bool, true, false, _||_}
-use mathlib.Core.List.{List, [], _∷_, _++_}
+use mathlib.Core.Bool.{Bool, true, false, _||_, cond}
+use mathlib.Core.List.{List, [], _∷_, _++_, flatMap}
 use Prim.Native.Nat.{ℕ, _+_, _*_, _≤_}
 use native.Mathlib.Omega.{arith}
 use borrow.Author.Tests.{ltb-false, leb-true}
 use lib.Dec.{ltb, leb, eqb, lit≤}
 use lib.ListN.{length, length-append, length-replicate}
-use Rattle.lists.specs.Choice.{pick, between}
-use Rattle.lists.specs.Lists.{joined}
-use Rattle.lists.proofs.Lengths.{chosen, either, joined-within}
+use Rattle.lists.specs.Choice.{between}
+use Rattle.lists.proofs.Lengths.{chosen, either, flatMap-within}
 use Rattle.lists.proofs.Tables.{both-right}
 use Rattle.codes.specs.Telnet.{IAC, BM, DEFINE}
 use Rattle.keys.specs.declared.Key.{Key}
 use Rattle.keys.specs.declared.Key.the-variants.{Char, Line, Command}
 use Rattle.wire.specs.Frames.{coded, doubled, frame}
 use Rattle.wire.proofs.Coded.{coded-long}
-use Rattle.macros.specs.Texts.{textRoom}
+use Rattle.received_macros.specs.Texts.{textRoom}
 use Rattle.bodies.specs.RcteBodies.{setsBreaks, setsSends}
-use Rattle.definitions.specs.Sending.{Definitions, sentOf, isFree, stored, storedRoom, sentTotal, defining, isTooLong, defineBytes, dataBytes}
+use Rattle.sent_macros.specs.Sending.{Definitions, sentOf, isFree, stored, storedRoom, sentTotal, defining, isTooLong, defineBytes, dataBytes}
 use Rattle.disposition.specs.declared.Handling.{Handling}
 use Rattle.disposition.specs.declared.Handling.the-variants.{Sender, Receiver}
 use Rattle.disposition.specs.Returns.{padded, lineBytes, returnBytes, itemData}
 use Rattle.bulletin.specs.Calls.{pairBytes, orderBody, orderBytes, itemBytes}
 
 doubled-long : (bs : List ℕ) → length (doubled bs) ≤ 2 * length bs
-doubled-long bs = joined-within coded 2 coded-long bs
+doubled-long bs = flatMap-within coded 2 coded-long bs
 
 -- a frame doubles its body at most, and adds four bytes
 pub frame-long : (body : List ℕ) → length (frame body) ≤ 2 * length body + 4
@@ -79,17 +78,17 @@ data-long h (Command c) = lit≤ tt
 
 -- a LITERAL is seven bytes, and 255 is none
 byte-long : (t : Definitions) (b : ℕ) → length (dataBytes t b) ≤ 7
-unfolding dataBytes coded frame joined
+unfolding dataBytes coded frame flatMap
 byte-long t b = go (eqb b IAC) (isFree (sentOf t b))
   where
-    go : (iac free : Bool) → length (pick iac (pick iac (255 ∷ 255 ∷ []) (b ∷ [])) (pick free (b ∷ []) (255 ∷ 250 ∷ 19 ∷ 4 ∷ ((pick iac (255 ∷ 255 ∷ []) (b ∷ []) ++ []) ++ 255 ∷ 240 ∷ [])))) ≤ 7
+    go : (iac free : Bool) → length (cond iac (cond iac (255 ∷ 255 ∷ []) (b ∷ [])) (cond free (b ∷ []) (255 ∷ 250 ∷ 19 ∷ 4 ∷ ((cond iac (255 ∷ 255 ∷ []) (b ∷ []) ++ []) ++ 255 ∷ 240 ∷ [])))) ≤ 7
     go true free = lit≤ tt
     go false true = lit≤ tt
     go false false = lit≤ tt
 
 pub item-long : (t : Definitions) (h : Handling) (k : Key) → length (itemBytes t h k) ≤ 1764
-item-long t h (Char b) = omega (arith, joined-within (dataBytes t) 7 (byte-long t) (itemData h (Char b)), data-long h (Char b))
-item-long t h Line = omega (arith, joined-within (dataBytes t) 7 (byte-long t) (itemData h Line), data-long h Line)
+item-long t h (Char b) = omega (arith, flatMap-within (dataBytes t) 7 (byte-long t) (itemData h (Char b)), data-long h (Char b))
+item-long t h Line = omega (arith, flatMap-within (dataBytes t) 7 (byte-long t) (itemData h Line), data-long h Line)
 item-long t h (Command c) = lit≤ tt
 
 -- a text that is not too long

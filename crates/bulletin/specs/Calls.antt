@@ -1,10 +1,9 @@
 -- The bulletin end's calls: each a total function of the state, its arguments and the sizes of the lent buffers.
-use mathlib.Core.Bool.{Bool, true, false, _&&_, _||_, not}
+use mathlib.Core.Bool.{Bool, true, false, _&&_, _||_, not, cond}
 use mathlib.Core.List.{List, [], _∷_, _++_}
 use Prim.Native.Nat.{ℕ, _/_, _%_}
 use lib.Dec.{leb, eqb}
-use Rattle.lists.specs.Choice.{pick}
-use Rattle.codes.specs.Answers.{noRoom, noWire, Guard, when, guarded}
+use Rattle.codes.specs.Answers.{noRoom, noWire, Guard, refusedIf, guarded}
 use Rattle.codes.specs.Telnet.{RCTE, DS, IAC}
 use Rattle.codes.specs.declared.Code.the-variants.{NoRoom, BadCommand, NotInForce, BadMacroByte, TooLong, Unanswered, NoText, BadValue, OutputWaits}
 use Rattle.codes.specs.declared.Whose.{Whose}
@@ -16,31 +15,31 @@ use Rattle.negotiation.specs.declared.End.{End}
 use Rattle.negotiation.specs.declared.Side.{Side}
 use Rattle.negotiation.specs.Carried.{replyBytes, askedSide, askedWhose, askedEnable, askingOf, askedBy}
 use Rattle.bodies.specs.RcteBodies.{setsBreaks, setsSends}
-use Rattle.definitions.specs.Sending.{Definitions, sentOf, isPending, isAccepted, isTooLong, defining, defineBytes, allDataBytes, acceptedText, statusOf}
-use Rattle.definitions.specs.declared.Status.{Status}
+use Rattle.sent_macros.specs.Sending.{Definitions, sentOf, isPending, isAccepted, isTooLong, defining, defineBytes, allDataBytes, acceptedText, statusOf}
+use Rattle.sent_macros.specs.declared.Status.{Status}
 use Rattle.disposition.specs.declared.Handling.{Handling}
-use Rattle.disposition.specs.Returns.{withDs, suggestion, suggestGuards, itemData, awaits, isReturn}
+use Rattle.disposition.specs.Returns.{withDs, suggestion, suggestGuards, itemData, awaits, isReturn, Report, reportOf}
 use Rattle.bulletin.specs.declared.Output.{Output}
 use Rattle.bulletin.specs.declared.Output.the-variants.{Ready, Waiting}
-use Rattle.bulletin.specs.State.{Bulletin, withTable, withValues, withAwaiting, rcteOn, macrosOn, returnsOn, handlingNow, definitionsNow, Did, sends, Answer, done, refused}
+use Rattle.bulletin.specs.State.{BulletinState, withTable, withValues, withAwaiting, rcteInForce, bmInForce, naocrdInForce, handlingNow, definitionsNow, Effect, sends, CallEffect, done, refused}
 use Rattle.bulletin.specs.Network.{networkRead, sideMoved}
 
-unfoldable pub networkCall : Bulletin → ℕ → ℕ → ℕ → Answer
-networkCall s b host wire = guarded (when (noRoom host wire) NoRoom ∷ []) (refused s) (done (networkRead s b))
+unfoldable pub networkCall : BulletinState → ℕ → ℕ → ℕ → CallEffect
+networkCall s b host wire = guarded (refusedIf (noRoom host wire) NoRoom ∷ []) (refused s) (done (networkRead s b))
 
-abbrev pub askOf : Bulletin → ℕ → Whose → Side → Bool → Answer
+abbrev pub askOf : BulletinState → ℕ → Whose → Side → Bool → CallEffect
 askOf s option whose side enable =
     askedBy (refused s) (λ q reply. done (sideMoved s side q (replyBytes whose reply option))) (askingOf (s .sides) side enable)
 
-unfoldable pub askCall : Bulletin → ℕ → ℕ → ℕ → Answer
+unfoldable pub askCall : BulletinState → ℕ → ℕ → ℕ → CallEffect
 askCall s option way wire =
-    guarded (when (noWire wire) NoRoom ∷ []) (refused s)
+    guarded (refusedIf (noWire wire) NoRoom ∷ []) (refused s)
     (askOf s option (askedWhose way) (askedSide End.Bulletin option way) (askedEnable way))
 
 -- DS, suggested by the bulletin end; the value that counts is its own
-unfoldable pub suggestCall : Bulletin → ℕ → ℕ → Answer
+unfoldable pub suggestCall : BulletinState → ℕ → ℕ → CallEffect
 suggestCall s v wire =
-    guarded (when (noWire wire) NoRoom ∷ suggestGuards (returnsOn s) (s .values .ds) v) (refused s)
+    guarded (refusedIf (noWire wire) NoRoom ∷ suggestGuards (naocrdInForce s) (s .values .ds) v) (refused s)
     (done (sends (suggestion DS v) (withValues s (withDs (s .values) v))))
 
 -- an order's cmd is 0, or odd and at most 31
@@ -61,38 +60,38 @@ orderBody cmd breaks sends = RCTE ∷ cmd ∷ orderPairs cmd breaks sends
 unfoldable pub orderBytes : ℕ → ℕ → ℕ → List ℕ
 orderBytes cmd breaks sends = frame (orderBody cmd breaks sends)
 
-abbrev pub orderGuards : Bulletin → ℕ → ℕ → List Guard
-orderGuards s cmd wire = when (noWire wire) NoRoom ∷ when (not (rcteOn s)) NotInForce ∷ when (badOrder cmd) BadValue ∷ []
+abbrev pub orderGuards : BulletinState → ℕ → ℕ → List Guard
+orderGuards s cmd wire = refusedIf (noWire wire) NoRoom ∷ refusedIf (not (rcteInForce s)) NotInForce ∷ refusedIf (badOrder cmd) BadValue ∷ []
 
-unfoldable pub orderCall : Bulletin → ℕ → ℕ → ℕ → ℕ → Answer
+unfoldable pub orderCall : BulletinState → ℕ → ℕ → ℕ → ℕ → CallEffect
 orderCall s cmd bc tc wire = guarded (orderGuards s cmd wire) (refused s) (done (sends (orderBytes cmd bc tc) s))
 
-abbrev pub defineGuardsBeforeSize : Bulletin → ℕ → ℕ → List Guard
+abbrev pub defineGuardsBeforeSize : BulletinState → ℕ → ℕ → List Guard
 defineGuardsBeforeSize s x wire =
-    when (noWire wire) NoRoom
-    ∷ when (not (macrosOn s)) NotInForce
-    ∷ when (eqb x IAC) BadMacroByte
-    ∷ when (isPending (sentOf (s .table) x)) Unanswered
+    refusedIf (noWire wire) NoRoom
+    ∷ refusedIf (not (bmInForce s)) NotInForce
+    ∷ refusedIf (eqb x IAC) BadMacroByte
+    ∷ refusedIf (isPending (sentOf (s .table) x)) Unanswered
     ∷ []
 
-abbrev pub defineGuards : Bulletin → ℕ → List ℕ → ℕ → List Guard
-defineGuards s x t wire = defineGuardsBeforeSize s x wire ++ when (isTooLong (s .table) x t) TooLong ∷ []
+abbrev pub defineGuards : BulletinState → ℕ → List ℕ → ℕ → List Guard
+defineGuards s x t wire = defineGuardsBeforeSize s x wire ++ refusedIf (isTooLong (s .table) x t) TooLong ∷ []
 
-unfoldable pub defineCall : Bulletin → ℕ → List ℕ → ℕ → Answer
+unfoldable pub defineCall : BulletinState → ℕ → List ℕ → ℕ → CallEffect
 defineCall s x t wire =
     guarded (defineGuards s x t wire) (refused s)
     (done (sends (defineBytes x t) (withTable s (defining (s .table) x t))))
 
-abbrev pub useGuards : Bulletin → ℕ → ℕ → List Guard
+abbrev pub useGuards : BulletinState → ℕ → ℕ → List Guard
 useGuards s x wire =
-    when (noWire wire) NoRoom
-    ∷ when (not (macrosOn s)) NotInForce
-    ∷ when (s .awaiting) OutputWaits
-    ∷ when (not (isAccepted (sentOf (s .table) x))) NoText
+    refusedIf (noWire wire) NoRoom
+    ∷ refusedIf (not (bmInForce s)) NotInForce
+    ∷ refusedIf (s .awaiting) OutputWaits
+    ∷ refusedIf (not (isAccepted (sentOf (s .table) x))) NoText
     ∷ []
 
 -- use of a macro: its byte goes out bare
-unfoldable pub useCall : Bulletin → ℕ → ℕ → Answer
+unfoldable pub useCall : BulletinState → ℕ → ℕ → CallEffect
 useCall s x wire = guarded (useGuards s x wire) (refused s) (done (sends (x ∷ []) s))
 
 -- the bytes of an item: its data, byte by byte; a Command as it is
@@ -102,31 +101,31 @@ itemBytes t h Line = allDataBytes t (itemData h Line)
 itemBytes t h (Command c) = command c
 
 -- output waits behind a carriage return that is sent with 254 in force
-abbrev pub waitsAfter : Bulletin → Key → Bool
+abbrev pub waitsAfter : BulletinState → Key → Bool
 waitsAfter s k = s .awaiting || (isReturn k && awaits (handlingNow s))
 
-unfoldable pub itemSent : Bulletin → Key → Did
+unfoldable pub itemSent : BulletinState → Key → Effect
 itemSent s k = sends (itemBytes (definitionsNow s) (handlingNow s) k) (withAwaiting s (waitsAfter s k))
 
-abbrev pub textGuards : Bulletin → Key → ℕ → List Guard
-textGuards s k wire = when (noWire wire) NoRoom ∷ when (badCommand k) BadCommand ∷ when (s .awaiting) OutputWaits ∷ []
+abbrev pub textGuards : BulletinState → Key → ℕ → List Guard
+textGuards s k wire = refusedIf (noWire wire) NoRoom ∷ refusedIf (badCommand k) BadCommand ∷ refusedIf (s .awaiting) OutputWaits ∷ []
 
-unfoldable pub textCall : Bulletin → Key → ℕ → Answer
+unfoldable pub textCall : BulletinState → Key → ℕ → CallEffect
 textCall s k wire = guarded (textGuards s k wire) (refused s) (done (itemSent s k))
 
 -- the data that a text item and a use of a macro stand for
-unfoldable pub textData : Bulletin → Key → List ℕ
+unfoldable pub textData : BulletinState → Key → List ℕ
 textData s k = itemData (handlingNow s) k
 
-unfoldable pub useData : Bulletin → ℕ → List ℕ
+unfoldable pub useData : BulletinState → ℕ → List ℕ
 useData s x = acceptedText (sentOf (s .table) x)
 
 -- what a host may ask before it sends: how a macro byte stands, who handles carriage returns and how, whether output waits
-abbrev pub macroStatus : Bulletin → ℕ → Status
+abbrev pub macroStatus : BulletinState → ℕ → Status
 macroStatus s x = statusOf (sentOf (definitionsNow s) x)
 
-abbrev pub returnsReport : Bulletin → Handling
-returnsReport s = handlingNow s
+abbrev pub returnsReport : BulletinState → Report
+returnsReport s = reportOf (handlingNow s)
 
-abbrev pub outputNow : Bulletin → Output
-outputNow s = pick (s .awaiting) Waiting Ready
+abbrev pub outputNow : BulletinState → Output
+outputNow s = cond (s .awaiting) Waiting Ready

@@ -2,13 +2,14 @@
 use mathlib.Core.Path.{_≡_}
 use mathlib.Core.Bool.{false}
 use mathlib.Core.List.{List, List·Memᴰ}
-use Rattle.definitions.specs.Sending.{noDefinitions}
-use Rattle.bulletin.specs.State.{Bulletin, macrosOn, Answer}
+use Rattle.sent_macros.specs.Sending.{noDefinitions}
+use Rattle.bulletin.specs.State.{BulletinState, bmInForce, CallEffect}
 use Rattle.bulletin.specs.Session.{Call, session}
 
-abbrev pub EmptyWhileOff : Bulletin → Type 0
-EmptyWhileOff s = macrosOn s ≡ false → s .table ≡ noDefinitions
+abbrev pub EmptyWhileOff : BulletinState → Type 0
+EmptyWhileOff s = bmInForce s ≡ false → s .table ≡ noDefinitions
 
--- Every call of every session leaves it so, refused ones too. Ruled out: a text that outlives the BM for which it was accepted.
+-- Assumed: any session. Promised: each call leaves an empty table, or BM in force. Ruled out: a text that outlives
+-- the BM for which it was accepted; an ACCEPT that is believed while BM is not in force.
 abbrev pub TableEmptied : Type 0
-TableEmptied = (cs : List Call) (a : Answer) → List·Memᴰ a (session cs) → EmptyWhileOff (a .did .state)
+TableEmptied = (cs : List Call) (a : CallEffect) → List·Memᴰ a (session cs) → EmptyWhileOff (a .effect .state)

@@ -4,6 +4,6 @@ pub mod Calls
 pub mod Session
 pub mod Limits
 pub mod Apart
-pub mod Kept
+pub mod Refinement
 pub mod EmptyTable
 pub mod Determined

@@ -1,14 +1,13 @@
 -- A network byte at the bulletin end.
-use mathlib.Core.Bool.{Bool, false}
+use mathlib.Core.Bool.{Bool, false, cond}
 use mathlib.Core.List.{List, [], _∷_}
 use Prim.Native.Nat.{ℕ}
 use lib.ListN.{set}
-use Rattle.lists.specs.Choice.{pick}
 use Rattle.codes.specs.Telnet.{DR}
 use Rattle.codes.specs.declared.Note.the-variants.{Clear, Unreadable, OtherOption, Stray}
 use Rattle.codes.specs.declared.Verb.{Verb}
 use Rattle.negotiation.specs.declared.End.{End}
-use Rattle.negotiation.specs.declared.Standing.{Standing}
+use Rattle.negotiation.specs.declared.OptionState.{OptionState}
 use Rattle.negotiation.specs.declared.Side.{Side}
 use Rattle.negotiation.specs.declared.Side.the-variants.{Echo, BulletinSga, Rcte, Macro, PrinterSga, Returns, Uncarried}
 use Rattle.negotiation.specs.Table.{isYes}
@@ -21,63 +20,63 @@ use Rattle.bodies.specs.declared.ReplyBody.{ReplyBody}
 use Rattle.bodies.specs.declared.ValueBody.{ValueBody}
 use Rattle.bodies.specs.MacroBodies.{replyBody}
 use Rattle.bodies.specs.ValueBodies.{valueBody}
-use Rattle.definitions.specs.Sending.{noDefinitions, sentOf, onAccept, onRefuse, cancelBytes, cancelled}
+use Rattle.sent_macros.specs.Sending.{noDefinitions, sentOf, onAccept, onRefuse, cancelBytes, cancelled}
 use Rattle.disposition.specs.Returns.{unspoken, withDr}
 use Rattle.subnegotiation.specs.declared.Checked.{Checked}
 use Rattle.subnegotiation.specs.declared.Checked.the-variants.{Noted}
 use Rattle.subnegotiation.specs.Checks.{checked}
-use Rattle.bulletin.specs.State.{Bulletin, withSides, withReader, withTable, withValues, withAwaiting, Did, sends, nothing, notes}
+use Rattle.bulletin.specs.State.{BulletinState, withSides, withReader, withTable, withValues, withAwaiting, Effect, sends, nothing, notes}
 
 -- data goes to the host, and ends a wait
-unfoldable pub dataRead : Bulletin → ℕ → Did
+unfoldable pub dataRead : BulletinState → ℕ → Effect
 dataRead s b = record { note = Clear; host = b ∷ []; wire = []; state = withAwaiting s false }
 
--- a side's standing changed: leaving YES empties BM's table, and forgets NAOCRD's values
-abbrev pub sideState : Bulletin → Side → Standing → Bulletin
-sideState s Macro q = withTable (withSides s (moved (s .sides) Macro q)) (pick (isYes q) (s .table) noDefinitions)
-sideState s Returns q = withValues (withSides s (moved (s .sides) Returns q)) (pick (isYes q) (s .values) unspoken)
+-- a side's state changed: leaving YES empties BM's table, and forgets NAOCRD's values
+abbrev pub sideState : BulletinState → Side → OptionState → BulletinState
+sideState s Macro q = withTable (withSides s (moved (s .sides) Macro q)) (cond (isYes q) (s .table) noDefinitions)
+sideState s Returns q = withValues (withSides s (moved (s .sides) Returns q)) (cond (isYes q) (s .values) unspoken)
 sideState s Rcte q = withSides s (moved (s .sides) Rcte q)
 sideState s Echo q = withSides s (moved (s .sides) Echo q)
 sideState s BulletinSga q = withSides s (moved (s .sides) BulletinSga q)
 sideState s PrinterSga q = withSides s (moved (s .sides) PrinterSga q)
 sideState s Uncarried q = s
 
-unfoldable pub sideMoved : Bulletin → Side → Standing → List ℕ → Did
+unfoldable pub sideMoved : BulletinState → Side → OptionState → List ℕ → Effect
 sideMoved s side q reply = sends reply (sideState s side q)
 
-unfoldable pub negotiationRead : Bulletin → Verb → ℕ → Did
+unfoldable pub negotiationRead : BulletinState → Verb → ℕ → Effect
 negotiationRead s v option =
     let t = heardBy End.Bulletin (s .sides) v option in
     sideMoved s (t .side) (t .next) (replyBytes (t .whose) (t .reply) option)
 
 -- what the printer end says of a macro; an answer to PLEASE CANCEL is sent whether output waits or not
-abbrev pub replied : Bulletin → MacroReply → Did
-replied s (Accept x) = nothing (withTable s (set (s .table) x (onAccept (sentOf (s .table) x))))
-replied s (Refuse x) = nothing (withTable s (set (s .table) x (onRefuse (sentOf (s .table) x))))
-replied s (PleaseCancel x) = sends (cancelBytes (s .table) x) (withTable s (cancelled (s .table) x))
+abbrev pub macroReplied : BulletinState → MacroReply → Effect
+macroReplied s (Accept x) = nothing (withTable s (set (s .table) x (onAccept (sentOf (s .table) x))))
+macroReplied s (Refuse x) = nothing (withTable s (set (s .table) x (onRefuse (sentOf (s .table) x))))
+macroReplied s (PleaseCancel x) = sends (cancelBytes (s .table) x) (withTable s (cancelled (s .table) x))
 
-abbrev pub replyRead : Bulletin → ReplyBody → Did
+abbrev pub replyRead : BulletinState → ReplyBody → Effect
 replyRead s ReplyBody.Unreadable = notes Unreadable s
-replyRead s (ReplyBody.Readable r) = replied s r
+replyRead s (ReplyBody.Readable r) = macroReplied s r
 
-abbrev pub valueRead : Bulletin → ValueBody → Did
+abbrev pub valueRead : BulletinState → ValueBody → Effect
 valueRead s ValueBody.Unreadable = notes Unreadable s
 valueRead s (ValueBody.Readable v) = nothing (withValues s (withDr (s .values) v))
 
 -- a body by its option, or the note that ends its handling; one of RCTE is never given to this end
-abbrev pub bodyHandled : Bulletin → List ℕ → Checked → Did
+abbrev pub bodyHandled : BulletinState → List ℕ → Checked → Effect
 bodyHandled s body (Noted n) = notes n s
 bodyHandled s body Checked.Rcte = notes OtherOption s
 bodyHandled s body Checked.Returns = valueRead s (valueBody DR body)
 bodyHandled s body Checked.Macro = replyRead s (replyBody body)
 
-unfoldable pub bodyRead : Bulletin → Bool → List ℕ → Did
+unfoldable pub bodyRead : BulletinState → Bool → List ℕ → Effect
 bodyRead s marred body = bodyHandled s body (checked End.Bulletin (s .sides) marred body)
 
 -- an item handled, in the state that has the reader as the byte left it; a body leaves the reader empty
-abbrev pub itemRead : Bulletin → Item → Did
+abbrev pub itemRead : BulletinState → Item → Effect
 itemRead s i =
     itemBy (nothing s) (dataRead s) (negotiationRead s) (bodyRead (withReader s idle) (s .reader .marred) (s .reader .body)) (notes Stray s) i
 
-unfoldable pub networkRead : Bulletin → ℕ → Did
+unfoldable pub networkRead : BulletinState → ℕ → Effect
 networkRead s b = byteBy withReader itemRead s (read (s .reader) b)

@@ -2,7 +2,7 @@
 use mathlib.Core.List.{List, [], _∷_}
 use Prim.Native.Nat.{ℕ}
 use Rattle.keys.specs.declared.Key.{Key}
-use Rattle.bulletin.specs.State.{Bulletin, fresh, Answer}
+use Rattle.bulletin.specs.State.{BulletinState, fresh, CallEffect}
 use Rattle.bulletin.specs.Calls.{networkCall, askCall, suggestCall, orderCall, defineCall, useCall, textCall}
 
 -- the lent buffers' sizes are a call's last arguments: of network the host's data and the wire, of the others the wire
@@ -15,7 +15,7 @@ pub data Call : Type 0 where
   useMacro : (byte wire : ℕ) → Call
   text : Key → (wire : ℕ) → Call
 
-unfoldable pub called : Bulletin → Call → Answer
+unfoldable pub called : BulletinState → Call → CallEffect
 called s (network b h w) = networkCall s b h w
 called s (ask o y w) = askCall s o y w
 called s (suggest v w) = suggestCall s v w
@@ -24,9 +24,9 @@ called s (define x t w) = defineCall s x t w
 called s (useMacro x w) = useCall s x w
 called s (text k w) = textCall s k w
 
-unfoldable pub answersFrom : Bulletin → List Call → List Answer
+unfoldable pub answersFrom : BulletinState → List Call → List CallEffect
 answersFrom s [] = []
-answersFrom s (c ∷ cs) = let a = called s c in a ∷ answersFrom (a .did .state) cs
+answersFrom s (c ∷ cs) = let a = called s c in a ∷ answersFrom (a .effect .state) cs
 
-abbrev pub session : List Call → List Answer
+abbrev pub session : List Call → List CallEffect
 session cs = answersFrom fresh cs

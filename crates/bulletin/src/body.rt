@@ -1,10 +1,10 @@
 // A subnegotiation's body at the bulletin end.
-ghost use Rattle.lists.specs.Buffers.{RoomFor};
+ghost use Rattle.lists.specs.Buffers.{lent, RoomFor};
 ghost use Rattle.codes.specs.Telnet.{DR};
 ghost use Rattle.bodies.specs.MacroBodies.{replyBody};
 ghost use Rattle.bodies.specs.ValueBodies.{valueBody};
-ghost use Rattle.bulletin.specs.Network.{replied, replyRead, valueRead, bodyHandled};
-ghost use Rattle.bulletin.specs.Kept.{viewBulletin, bodyEndRead, MetStepOnWire, MetQuietly};
+ghost use Rattle.bulletin.specs.Network.{macroReplied, replyRead, valueRead, bodyHandled};
+ghost use Rattle.bulletin.specs.Refinement.{viewBulletin, bodyEndRead, RefinesStepOnWire, RefinesStepUnwritten};
 use crate::Bulletin;
 use crate::Step;
 use crate::moves;
@@ -18,7 +18,7 @@ use subnegotiation::Checked;
 
 // The printer end's value about carriage returns, with NAOCRD in force.
 fn value_read(s: Bulletin, body: &[u8]) -> Step
-    ensures { λ r. ⌜ MetQuietly (valueRead (viewBulletin s) (valueBody DR (now (body .entry)))) s r ⌝ }
+    ensures { λ r. ⌜ RefinesStepUnwritten (valueRead (viewBulletin s) (valueBody DR (now (body .entry)))) s r ⌝ }
 {
     let ValueBody::Readable(value) = bodies::value_body(DR, body) else {
         return moves::step(s, Note::Unreadable, 0);
@@ -30,22 +30,22 @@ fn value_read(s: Bulletin, body: &[u8]) -> Step
 }
 
 // What the printer end says of a macro.
-fn replied(s: Bulletin, reply: MacroReply, wire: &mut [u8]) -> Step
-    requires { ⌜ RoomFor (replied (viewBulletin s) reply .wire) (now wire) ⌝ }
-    ensures { λ r. ⌜ MetStepOnWire (replied (viewBulletin s) reply) s (now (wire .entry)) (now (wire .exit)) r ⌝ }
+fn macro_replied(s: Bulletin, reply: MacroReply, wire: &mut [u8]) -> Step
+    requires { ⌜ RoomFor (macroReplied (viewBulletin s) reply .wire) (now wire) ⌝ }
+    ensures { λ r. ⌜ RefinesStepOnWire (macroReplied (viewBulletin s) reply) s (lent wire) r ⌝ }
 {
     let old = s.table;
     match reply {
         MacroReply::Accept(x) => {
-            let table = definitions::accepted(old, x);
+            let table = sent_macros::accepted(old, x);
             moves::step(moves::with_table(s, table), Note::Clear, 0)
         }
         MacroReply::Refuse(x) => {
-            let table = definitions::refused(old, x);
+            let table = sent_macros::refused(old, x);
             moves::step(moves::with_table(s, table), Note::Clear, 0)
         }
         MacroReply::PleaseCancel(x) => {
-            let c = definitions::cancel(old, x, wire);
+            let c = sent_macros::cancel(old, x, wire);
             let n = c.wire;
             let table = c.table;
             moves::step(moves::with_table(s, table), Note::Clear, n)
@@ -56,18 +56,18 @@ fn replied(s: Bulletin, reply: MacroReply, wire: &mut [u8]) -> Step
 // BM's answers, with BM in force.
 fn reply_read(s: Bulletin, body: &[u8], wire: &mut [u8]) -> Step
     requires { ⌜ RoomFor (replyRead (viewBulletin s) (replyBody (now body)) .wire) (now wire) ⌝ }
-    ensures { λ r. ⌜ MetStepOnWire (replyRead (viewBulletin s) (replyBody (now (body .entry)))) s (now (wire .entry)) (now (wire .exit)) r ⌝ }
+    ensures { λ r. ⌜ RefinesStepOnWire (replyRead (viewBulletin s) (replyBody (now (body .entry)))) s (lent wire) r ⌝ }
 {
     let ReplyBody::Readable(reply) = bodies::reply_body(body) else {
         return moves::step(s, Note::Unreadable, 0);
     };
-    replied(s, reply, wire)
+    macro_replied(s, reply, wire)
 }
 
 // A body by its option, or the note that ends its handling.
 fn handled(s: Bulletin, body: &[u8], checked: Checked, wire: &mut [u8]) -> Step
     requires { ⌜ RoomFor (bodyHandled (viewBulletin s) (now body) checked .wire) (now wire) ⌝ }
-    ensures { λ r. ⌜ MetStepOnWire (bodyHandled (viewBulletin s) (now (body .entry)) checked) s (now (wire .entry)) (now (wire .exit)) r ⌝ }
+    ensures { λ r. ⌜ RefinesStepOnWire (bodyHandled (viewBulletin s) (now (body .entry)) checked) s (lent wire) r ⌝ }
 {
     match checked {
         Checked::Noted(note) => moves::step(s, note, 0),
@@ -80,7 +80,7 @@ fn handled(s: Bulletin, body: &[u8], checked: Checked, wire: &mut [u8]) -> Step
 // The body that the reader kept; the reader is empty after it.
 pub fn body_read(s: Bulletin, wire: &mut [u8]) -> Step
     requires { ⌜ RoomFor (bodyEndRead (viewBulletin s) .wire) (now wire) ⌝ }
-    ensures { λ r. ⌜ MetStepOnWire (bodyEndRead (viewBulletin s)) s (now (wire .entry)) (now (wire .exit)) r ⌝ }
+    ensures { λ r. ⌜ RefinesStepOnWire (bodyEndRead (viewBulletin s)) s (lent wire) r ⌝ }
 {
     let kept = s.reader;
     let sides = s.sides;

@@ -1,7 +1,8 @@
 // The bulletin end's calls. None asks anything of its caller.
 ghost use mathlib.Core.Path.{_≡_};
-ghost use lib.ListN.{length};
+ghost use Rattle.lists.specs.Buffers.{lent};
 ghost use Rattle.codes.specs.Answers.{refusalOf};
+ghost use Rattle.disposition.specs.Returns.{reportOf};
 ghost use Rattle.bulletin.specs.Calls.{
   networkCall,
   askCall,
@@ -18,7 +19,7 @@ ghost use Rattle.bulletin.specs.Calls.{
   returnsReport,
   outputNow,
 };
-ghost use Rattle.bulletin.specs.Kept.{viewBulletin, WholeBulletin, MetAnswer, MetOnWire, MetFresh, refusal, answered};
+ghost use Rattle.bulletin.specs.Refinement.{viewBulletin, WholeBulletin, RefinesAnswer, RefinesAnswerOnWire, freshCells, refusal, answered};
 use crate::Answer;
 use crate::Bulletin;
 use crate::Output;
@@ -30,18 +31,18 @@ use codes::Code;
 use codes::DS;
 use codes::IAC;
 use codes::Note;
-use definitions::Status;
 use disposition::Handling;
 use keys::Key;
 use negotiation::Asking;
 use negotiation::End;
+use sent_macros::Status;
 
 pub fn fresh() -> Bulletin
-    ensures { λ r. ⌜ MetFresh r ⌝ }
+    ensures { λ r. ⌜ r ≡ freshCells ⌝ }
 {
     let sides = negotiation::all_no();
     let reader = reader::idle();
-    let table = definitions::none();
+    let table = sent_macros::none();
     let values = disposition::unspoken();
     Bulletin {
         sides,
@@ -80,7 +81,7 @@ fn done(step: Step) -> Answer
 }
 
 pub fn network_byte(s: Bulletin, b: u8, host: &mut [u8], wire: &mut [u8]) -> Answer
-    ensures { λ r. ⌜ MetAnswer (networkCall (viewBulletin s) b (length (now (host .entry))) (length (now (wire .entry)))) s (now (host .entry)) (now (host .exit)) (now (wire .entry)) (now (wire .exit)) r ⌝ }
+    ensures { λ r. ⌜ RefinesAnswer (networkCall (viewBulletin s) b) s (lent host) (lent wire) r ⌝ }
 {
     if codes::no_room(host.len(), wire.len()) {
         return refused(s, Code::NoRoom);
@@ -91,7 +92,7 @@ pub fn network_byte(s: Bulletin, b: u8, host: &mut [u8], wire: &mut [u8]) -> Ans
 
 // An option is asked for or given up: ways 0 and 1 disable and enable his side, 2 and 3 ours.
 pub fn ask(s: Bulletin, option: u8, way: u8, wire: &mut [u8]) -> Answer
-    ensures { λ r. ⌜ MetOnWire (askCall (viewBulletin s) option way (length (now (wire .entry)))) s (now (wire .entry)) (now (wire .exit)) r ⌝ }
+    ensures { λ r. ⌜ RefinesAnswerOnWire (askCall (viewBulletin s) option way) s (lent wire) r ⌝ }
 {
     if codes::no_wire(wire.len()) {
         return refused(s, Code::NoRoom);
@@ -104,7 +105,7 @@ pub fn ask(s: Bulletin, option: u8, way: u8, wire: &mut [u8]) -> Answer
         Asking::Refused(code) => refused(s, code),
         Asking::Moves(q, reply) => {
             let whose = negotiation::asked_whose(way);
-            let step = moves::replied(s, side, q, whose, reply, option, wire);
+            let step = moves::moved_with_reply(s, side, q, whose, reply, option, wire);
             done(step)
         }
     }
@@ -112,7 +113,7 @@ pub fn ask(s: Bulletin, option: u8, way: u8, wire: &mut [u8]) -> Answer
 
 // This end's value about carriage returns, DS.
 pub fn suggest(s: Bulletin, v: u8, wire: &mut [u8]) -> Answer
-    ensures { λ r. ⌜ MetOnWire (suggestCall (viewBulletin s) v (length (now (wire .entry)))) s (now (wire .entry)) (now (wire .exit)) r ⌝ }
+    ensures { λ r. ⌜ RefinesAnswerOnWire (suggestCall (viewBulletin s) v) s (lent wire) r ⌝ }
 {
     if codes::no_wire(wire.len()) {
         return refused(s, Code::NoRoom);
@@ -150,7 +151,7 @@ fn order_refusal(s: Bulletin, cmd: u8, wire: usize) -> Code
 
 // An RCTE command; a class pair is sent if the bit of cmd for it is on.
 pub fn order(s: Bulletin, cmd: u8, breaks: u16, sends: u16, wire: &mut [u8]) -> Answer
-    ensures { λ r. ⌜ MetOnWire (orderCall (viewBulletin s) cmd breaks sends (length (now (wire .entry)))) s (now (wire .entry)) (now (wire .exit)) r ⌝ }
+    ensures { λ r. ⌜ RefinesAnswerOnWire (orderCall (viewBulletin s) cmd breaks sends) s (lent wire) r ⌝ }
 {
     let code = order_refusal(s, cmd, wire.len());
     if !codes::is_done(code) {
@@ -175,7 +176,7 @@ fn define_refusal(s: Bulletin, x: u8, wire: usize) -> Code
     if x == IAC {
         return Code::BadMacroByte;
     }
-    if definitions::is_pending(&s.table.statuses, x) {
+    if sent_macros::is_pending(&s.table.statuses, x) {
         Code::Unanswered
     } else {
         Code::Done
@@ -184,14 +185,14 @@ fn define_refusal(s: Bulletin, x: u8, wire: usize) -> Code
 
 // A macro byte's new text, of any length.
 pub fn define(s: Bulletin, x: u8, text: &[u8], wire: &mut [u8]) -> Answer
-    ensures { λ r. ⌜ MetOnWire (defineCall (viewBulletin s) x (now (text .entry)) (length (now (wire .entry)))) s (now (wire .entry)) (now (wire .exit)) r ⌝ }
+    ensures { λ r. ⌜ RefinesAnswerOnWire (defineCall (viewBulletin s) x (now (text .entry))) s (lent wire) r ⌝ }
 {
     let code = define_refusal(s, x, wire.len());
     if !codes::is_done(code) {
         return refused(s, code);
     }
     let old = s.table;
-    let d = definitions::define(old, x, text, wire);
+    let d = sent_macros::define(old, x, text, wire);
     if !d.fits {
         return refused(s, Code::TooLong);
     }
@@ -216,7 +217,7 @@ fn use_refusal(s: Bulletin, x: u8, wire: usize) -> Code
     if s.awaiting {
         return Code::OutputWaits;
     }
-    if definitions::is_accepted(&s.table.statuses, x) {
+    if sent_macros::is_accepted(&s.table.statuses, x) {
         Code::Done
     } else {
         Code::NoText
@@ -225,7 +226,7 @@ fn use_refusal(s: Bulletin, x: u8, wire: usize) -> Code
 
 // An accepted macro, by its byte.
 pub fn use_macro(s: Bulletin, x: u8, wire: &mut [u8]) -> Answer
-    ensures { λ r. ⌜ MetOnWire (useCall (viewBulletin s) x (length (now (wire .entry)))) s (now (wire .entry)) (now (wire .exit)) r ⌝ }
+    ensures { λ r. ⌜ RefinesAnswerOnWire (useCall (viewBulletin s) x) s (lent wire) r ⌝ }
 {
     let code = use_refusal(s, x, wire.len());
     if !codes::is_done(code) {
@@ -255,7 +256,7 @@ fn text_refusal(s: Bulletin, k: Key, wire: usize) -> Code
 
 // A text item; with 254 in force output waits behind a carriage return.
 pub fn text_item(s: Bulletin, k: Key, wire: &mut [u8]) -> Answer
-    ensures { λ r. ⌜ MetOnWire (textCall (viewBulletin s) k (length (now (wire .entry)))) s (now (wire .entry)) (now (wire .exit)) r ⌝ }
+    ensures { λ r. ⌜ RefinesAnswerOnWire (textCall (viewBulletin s) k) s (lent wire) r ⌝ }
 {
     let code = text_refusal(s, k, wire.len());
     if !codes::is_done(code) {
@@ -274,14 +275,14 @@ pub fn macro_status(s: Bulletin, x: u8) -> Status
 {
     let sides = s.sides;
     if negotiation::macros_in_force(End::Bulletin, sides) {
-        return definitions::status_at(&s.table.statuses, x);
+        return sent_macros::status_at(&s.table.statuses, x);
     }
     Status::Free
 }
 
 // Who handles carriage returns, and how.
 pub fn report(s: Bulletin) -> Handling
-    ensures { λ r. ⌜ r ≡ returnsReport (viewBulletin s) ⌝ }
+    ensures { λ r. ⌜ reportOf r ≡ returnsReport (viewBulletin s) ⌝ }
 {
     items::handling_now(s)
 }

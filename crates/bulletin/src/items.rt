@@ -1,16 +1,16 @@
 // Text items and orders as they are written.
 ghost use mathlib.Core.Path.{_≡_};
-ghost use Rattle.lists.specs.Buffers.{RoomFor, Wrote};
+ghost use Rattle.lists.specs.Buffers.{lent, WroteAtStart, RoomFor};
 ghost use Rattle.bulletin.specs.State.{handlingNow, definitionsNow};
 ghost use Rattle.bulletin.specs.Calls.{badOrder, pairBytes, orderPairs, orderBody, orderBytes, itemBytes, waitsAfter};
-ghost use Rattle.definitions.specs.Kept.{viewTable};
-ghost use Rattle.bulletin.specs.Kept.{viewBulletin};
+ghost use Rattle.sent_macros.specs.Refinement.{viewTable};
+ghost use Rattle.bulletin.specs.Refinement.{viewBulletin};
 use crate::Bulletin;
 use codes::RCTE;
-use definitions::SendingTable;
 use disposition::Handling;
 use keys::Key;
 use negotiation::End;
+use sent_macros::SendingTable;
 
 // The most data of an item: CR, the byte behind it, and 250 NULs.
 const ITEM_ROOM: usize = 252;
@@ -32,7 +32,7 @@ pub fn bad_order(cmd: u8) -> bool
 // A class pair, if its bit is on.
 fn put_pair(on: bool, pair: u16, out: &mut [u8]) -> usize
     requires { ⌜ RoomFor (pairBytes on pair) (now out) ⌝ }
-    ensures { λ r. ⌜ Wrote (pairBytes on pair) (now (out .entry)) (now (out .exit)) r ⌝ }
+    ensures { λ r. ⌜ WroteAtStart (pairBytes on pair) (lent out) r ⌝ }
 {
     if on {
         out[0] = (pair / 256 % 256) as u8;
@@ -45,7 +45,7 @@ fn put_pair(on: bool, pair: u16, out: &mut [u8]) -> usize
 // An order's class pairs, the one for break characters first.
 fn put_pairs(cmd: u8, breaks: u16, sends: u16, out: &mut [u8]) -> usize
     requires { ⌜ RoomFor (orderPairs cmd breaks sends) (now out) ⌝ }
-    ensures { λ r. ⌜ Wrote (orderPairs cmd breaks sends) (now (out .entry)) (now (out .exit)) r ⌝ }
+    ensures { λ r. ⌜ WroteAtStart (orderPairs cmd breaks sends) (lent out) r ⌝ }
 {
     let n = put_pair(bodies::sets_breaks(cmd), breaks, out);
     let m = put_pair(bodies::sets_sends(cmd), sends, &mut out[n..]);
@@ -54,7 +54,7 @@ fn put_pairs(cmd: u8, breaks: u16, sends: u16, out: &mut [u8]) -> usize
 
 fn put_order_body(cmd: u8, breaks: u16, sends: u16, out: &mut [u8]) -> usize
     requires { ⌜ RoomFor (orderBody cmd breaks sends) (now out) ⌝ }
-    ensures { λ r. ⌜ Wrote (orderBody cmd breaks sends) (now (out .entry)) (now (out .exit)) r ⌝ }
+    ensures { λ r. ⌜ WroteAtStart (orderBody cmd breaks sends) (lent out) r ⌝ }
 {
     out[0] = RCTE;
     out[1] = cmd;
@@ -64,7 +64,7 @@ fn put_order_body(cmd: u8, breaks: u16, sends: u16, out: &mut [u8]) -> usize
 // An order to the printer end.
 pub fn put_order(cmd: u8, breaks: u16, sends: u16, out: &mut [u8]) -> usize
     requires { ⌜ RoomFor (orderBytes cmd breaks sends) (now out) ⌝ }
-    ensures { λ r. ⌜ Wrote (orderBytes cmd breaks sends) (now (out .entry)) (now (out .exit)) r ⌝ }
+    ensures { λ r. ⌜ WroteAtStart (orderBytes cmd breaks sends) (lent out) r ⌝ }
 {
     let mut body = [0u8; ORDER_ROOM];
     let n = put_order_body(cmd, breaks, sends, &mut body);
@@ -101,13 +101,13 @@ fn table_now(s: Bulletin) -> SendingTable
     if negotiation::macros_in_force(End::Bulletin, sides) {
         return s.table;
     }
-    definitions::none()
+    sent_macros::none()
 }
 
 // The bytes of an item: its data, byte by byte; a Command as it is.
 pub fn put_item(s: Bulletin, k: Key, wire: &mut [u8]) -> usize
     requires { ⌜ RoomFor (itemBytes (definitionsNow (viewBulletin s)) (handlingNow (viewBulletin s)) k) (now wire) ⌝ }
-    ensures { λ r. ⌜ Wrote (itemBytes (definitionsNow (viewBulletin s)) (handlingNow (viewBulletin s)) k) (now (wire .entry)) (now (wire .exit)) r ⌝ }
+    ensures { λ r. ⌜ WroteAtStart (itemBytes (definitionsNow (viewBulletin s)) (handlingNow (viewBulletin s)) k) (lent wire) r ⌝ }
 {
     if keys::is_command(k) {
         return wire::put_key(k, wire);
@@ -116,5 +116,5 @@ pub fn put_item(s: Bulletin, k: Key, wire: &mut [u8]) -> usize
     let table = table_now(s);
     let mut data = [0u8; ITEM_ROOM];
     let n = disposition::put_item(handling, k, &mut data);
-    definitions::put_data(table, &data[..n], wire)
+    sent_macros::put_data(table, &data[..n], wire)
 }

@@ -1,10 +1,10 @@
 // The bulletin end: the serving host. One state by value, and its calls.
 use codes::Code;
 use codes::Note;
-use definitions::SendingTable;
 use disposition::Values;
 use negotiation::Sides;
 use reader::Reader;
+use sent_macros::SendingTable;
 
 mod body;
 pub mod calls;

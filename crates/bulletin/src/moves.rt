@@ -1,22 +1,22 @@
-// Negotiation: what is heard, and what follows as a side's standing changes.
+// Negotiation: what is heard, and what follows as a side's state changes.
 ghost use mathlib.Core.Path.{_≡_};
-ghost use Rattle.lists.specs.Buffers.{RoomFor};
+ghost use Rattle.lists.specs.Buffers.{lent, RoomFor};
 ghost use Rattle.negotiation.specs.Carried.{replyBytes};
 ghost use Rattle.bulletin.specs.State.{withValues};
 ghost use Rattle.bulletin.specs.Network.{sideState, sideMoved, negotiationRead};
 ghost use Rattle.negotiation.specs.declared.Side.the-variants.{Macro, Returns};
-ghost use Rattle.bulletin.specs.Kept.{viewBulletin, MetStepOnWire, MetState, stepOf, sidesMoved, tableSet};
+ghost use Rattle.bulletin.specs.Refinement.{viewBulletin, RefinesStepOnWire, RefinesState, stepOf, sidesMoved, tableSet};
 use crate::Bulletin;
 use crate::Step;
 use codes::Note;
 use codes::Verb;
 use codes::Whose;
-use definitions::SendingTable;
 use disposition::Values;
 use negotiation::End;
+use negotiation::OptionState;
 use negotiation::Reply;
 use negotiation::Side;
-use negotiation::Standing;
+use sent_macros::SendingTable;
 
 // A step that gives the host nothing.
 pub fn step(s: Bulletin, note: Note, wire: usize) -> Step
@@ -40,7 +40,7 @@ pub fn with_table(s: Bulletin, table: SendingTable) -> Bulletin
 
 // A wait lasts while the outcome stays the sender's 254.
 pub fn with_values(s: Bulletin, values: Values) -> Bulletin
-    ensures { λ r. ⌜ MetState (withValues (viewBulletin s) values) s r ⌝ }
+    ensures { λ r. ⌜ RefinesState (withValues (viewBulletin s) values) s r ⌝ }
 {
     let handling = disposition::handling_of(values);
     let awaiting = s.awaiting && disposition::awaits(handling);
@@ -51,8 +51,8 @@ pub fn with_values(s: Bulletin, values: Values) -> Bulletin
 }
 
 // Leaving YES empties BM's table.
-fn macro_moved(s: Bulletin, q: Standing) -> Bulletin
-    ensures { λ r. ⌜ MetState (sideState (viewBulletin s) Macro q) s r ⌝ }
+fn macro_moved(s: Bulletin, q: OptionState) -> Bulletin
+    ensures { λ r. ⌜ RefinesState (sideState (viewBulletin s) Macro q) s r ⌝ }
 {
     let old = s.sides;
     let sides = negotiation::moved(old, Side::Macro, q);
@@ -61,14 +61,14 @@ fn macro_moved(s: Bulletin, q: Standing) -> Bulletin
     if negotiation::is_yes(q) {
         return t;
     }
-    let empty = definitions::none();
+    let empty = sent_macros::none();
     t.table = empty;
     t
 }
 
 // .. and forgets NAOCRD's values.
-fn returns_moved(s: Bulletin, q: Standing) -> Bulletin
-    ensures { λ r. ⌜ MetState (sideState (viewBulletin s) Returns q) s r ⌝ }
+fn returns_moved(s: Bulletin, q: OptionState) -> Bulletin
+    ensures { λ r. ⌜ RefinesState (sideState (viewBulletin s) Returns q) s r ⌝ }
 {
     let old = s.sides;
     let sides = negotiation::moved(old, Side::Returns, q);
@@ -82,8 +82,8 @@ fn returns_moved(s: Bulletin, q: Standing) -> Bulletin
     with_values(t, values)
 }
 
-// Nothing but the standing changes.
-fn plainly_moved(s: Bulletin, side: Side, q: Standing) -> Bulletin
+// Nothing but the side's state changes.
+fn plainly_moved(s: Bulletin, side: Side, q: OptionState) -> Bulletin
     ensures { λ r. ⌜ r ≡ sidesMoved s side q ⌝ }
 {
     let old = s.sides;
@@ -93,8 +93,8 @@ fn plainly_moved(s: Bulletin, side: Side, q: Standing) -> Bulletin
     t
 }
 
-fn side_moved(s: Bulletin, side: Side, q: Standing) -> Bulletin
-    ensures { λ r. ⌜ MetState (sideState (viewBulletin s) side q) s r ⌝ }
+fn side_moved(s: Bulletin, side: Side, q: OptionState) -> Bulletin
+    ensures { λ r. ⌜ RefinesState (sideState (viewBulletin s) side q) s r ⌝ }
 {
     match side {
         Side::Macro => macro_moved(s, q),
@@ -108,17 +108,17 @@ fn side_moved(s: Bulletin, side: Side, q: Standing) -> Bulletin
 }
 
 // The reply or the request goes out as the side moves.
-pub fn replied(
+pub fn moved_with_reply(
     s: Bulletin,
     side: Side,
-    q: Standing,
+    q: OptionState,
     whose: Whose,
     reply: Reply,
     option: u8,
     wire: &mut [u8],
 ) -> Step
     requires { ⌜ RoomFor (sideMoved (viewBulletin s) side q (replyBytes whose reply option) .wire) (now wire) ⌝ }
-    ensures { λ r. ⌜ MetStepOnWire (sideMoved (viewBulletin s) side q (replyBytes whose reply option)) s (now (wire .entry)) (now (wire .exit)) r ⌝ }
+    ensures { λ r. ⌜ RefinesStepOnWire (sideMoved (viewBulletin s) side q (replyBytes whose reply option)) s (lent wire) r ⌝ }
 {
     let n = negotiation::put_reply(whose, reply, option, wire);
     let t = side_moved(s, side, q);
@@ -128,7 +128,7 @@ pub fn replied(
 // WILL, WONT, DO or DONT of an option.
 pub fn negotiated(s: Bulletin, v: Verb, option: u8, wire: &mut [u8]) -> Step
     requires { ⌜ RoomFor (negotiationRead (viewBulletin s) v option .wire) (now wire) ⌝ }
-    ensures { λ r. ⌜ MetStepOnWire (negotiationRead (viewBulletin s) v option) s (now (wire .entry)) (now (wire .exit)) r ⌝ }
+    ensures { λ r. ⌜ RefinesStepOnWire (negotiationRead (viewBulletin s) v option) s (lent wire) r ⌝ }
 {
     let sides = s.sides;
     let turn = negotiation::heard_by(End::Bulletin, sides, v, option);
@@ -136,5 +136,5 @@ pub fn negotiated(s: Bulletin, v: Verb, option: u8, wire: &mut [u8]) -> Step
     let q = turn.next;
     let whose = turn.whose;
     let reply = turn.reply;
-    replied(s, side, q, whose, reply, option, wire)
+    moved_with_reply(s, side, q, whose, reply, option, wire)
 }

@@ -1,7 +1,7 @@
 // A network byte at the bulletin end.
-ghost use Rattle.lists.specs.Buffers.{RoomFor};
+ghost use Rattle.lists.specs.Buffers.{lent, RoomFor};
 ghost use Rattle.bulletin.specs.Network.{dataRead, itemRead, networkRead};
-ghost use Rattle.bulletin.specs.Kept.{viewBulletin, MetStep, MetOnHost};
+ghost use Rattle.bulletin.specs.Refinement.{viewBulletin, RefinesStep, RefinesStepOnHost};
 use crate::Bulletin;
 use crate::Step;
 use crate::body;
@@ -12,7 +12,7 @@ use reader::Item;
 // Data goes to the host, and ends a wait.
 fn data_read(s: Bulletin, b: u8, host: &mut [u8]) -> Step
     requires { ⌜ RoomFor (dataRead (viewBulletin s) b .host) (now host) ⌝ }
-    ensures { λ r. ⌜ MetOnHost (dataRead (viewBulletin s) b) s (now (host .entry)) (now (host .exit)) r ⌝ }
+    ensures { λ r. ⌜ RefinesStepOnHost (dataRead (viewBulletin s) b) s (lent host) r ⌝ }
 {
     host[0] = b;
     let mut t = s;
@@ -29,7 +29,7 @@ fn data_read(s: Bulletin, b: u8, host: &mut [u8]) -> Step
 fn item_read(s: Bulletin, item: Item, host: &mut [u8], wire: &mut [u8]) -> Step
     requires { ⌜ RoomFor (itemRead (viewBulletin s) item .host) (now host) ⌝ }
     requires { ⌜ RoomFor (itemRead (viewBulletin s) item .wire) (now wire) ⌝ }
-    ensures { λ r. ⌜ MetStep (itemRead (viewBulletin s) item) s (now (host .entry)) (now (host .exit)) (now (wire .entry)) (now (wire .exit)) r ⌝ }
+    ensures { λ r. ⌜ RefinesStep (itemRead (viewBulletin s) item) s (lent host) (lent wire) r ⌝ }
 {
     match item {
         Item::Nothing => moves::step(s, Note::Clear, 0),
@@ -43,7 +43,7 @@ fn item_read(s: Bulletin, item: Item, host: &mut [u8], wire: &mut [u8]) -> Step
 pub fn network_read(s: Bulletin, b: u8, host: &mut [u8], wire: &mut [u8]) -> Step
     requires { ⌜ RoomFor (networkRead (viewBulletin s) b .host) (now host) ⌝ }
     requires { ⌜ RoomFor (networkRead (viewBulletin s) b .wire) (now wire) ⌝ }
-    ensures { λ r. ⌜ MetStep (networkRead (viewBulletin s) b) s (now (host .entry)) (now (host .exit)) (now (wire .entry)) (now (wire .exit)) r ⌝ }
+    ensures { λ r. ⌜ RefinesStep (networkRead (viewBulletin s) b) s (lent host) (lent wire) r ⌝ }
 {
     let old = s.reader;
     let read = reader::read_byte(old, b);

@@ -1,10 +1,9 @@
 -- A call's answer taken apart: that of a guard, or what the call does where no guard holds.
 use mathlib.Core.Path.{_≡_, refl, sym, ap, _∙_}
-use mathlib.Core.Bool.{Bool, true, false, not, false≢true}
+use mathlib.Core.Bool.{Bool, true, false, not, false≢true, cond}
 use mathlib.Core.List.{List, [], _∷_, _++_}
 use borrow.Author.Tests.{not-true, not-false}
 use lib.Dec.{eqb}
-use Rattle.lists.specs.Choice.{pick}
 use Rattle.codes.specs.Answers.{Guard, guarded, codeNumber, isDone, refusalOf}
 use Rattle.codes.specs.declared.Code.{Code}
 
@@ -33,7 +32,7 @@ judged {A} (g ∷ gs) refused done r = go (g .holds) refl (judged gs refused don
     under h (passed k e) = passed (h, k) e
 
     go : (t : Bool) → g .holds ≡ t → Judged gs refused done (guarded gs refused done)
-        → Judged (g ∷ gs) refused done (pick t (refused (g .code)) (guarded gs refused done))
+        → Judged (g ∷ gs) refused done (cond t (refused (g .code)) (guarded gs refused done))
     go true h j = stopped (g .code) (r .0) refl
     go false h j = under h j
 
@@ -53,8 +52,8 @@ module _ {A : Type 0} (refused : Code → A) (done : A) where
   guarded-refused [] n = absurd (false≢true (sym n))
   guarded-refused (g ∷ gs) n = go (g .holds) n (guarded-refused gs)
     where
-      go : (t : Bool) → isDone (pick t (g .code) (refusalOf gs)) ≡ false → (isDone (refusalOf gs) ≡ false → guarded gs refused done ≡ refused (refusalOf gs))
-          → pick t (refused (g .code)) (guarded gs refused done) ≡ refused (pick t (g .code) (refusalOf gs))
+      go : (t : Bool) → isDone (cond t (g .code) (refusalOf gs)) ≡ false → (isDone (refusalOf gs) ≡ false → guarded gs refused done ≡ refused (refusalOf gs))
+          → cond t (refused (g .code)) (guarded gs refused done) ≡ refused (cond t (g .code) (refusalOf gs))
       go true k rest = refl
       go false k rest = rest k
 
@@ -69,8 +68,8 @@ module _ {A : Type 0} (refused : Code → A) (done : A) where
   guarded-done [] r n = refl
   guarded-done (g ∷ gs) r n = go (g .holds) n (guarded-done gs (r .1))
     where
-      go : (t : Bool) → isDone (pick t (g .code) (refusalOf gs)) ≡ true → (isDone (refusalOf gs) ≡ true → guarded gs refused done ≡ done)
-          → pick t (refused (g .code)) (guarded gs refused done) ≡ done
+      go : (t : Bool) → isDone (cond t (g .code) (refusalOf gs)) ≡ true → (isDone (refusalOf gs) ≡ true → guarded gs refused done ≡ done)
+          → cond t (refused (g .code)) (guarded gs refused done) ≡ done
       go true k rest = absurd (false≢true (sym (r .0) ∙ k))
       go false k rest = rest k
 
@@ -80,7 +79,7 @@ unfolding refusalOf
 none-holds [] r n = tt
 none-holds (g ∷ gs) r n = go (g .holds) refl n (none-holds gs (r .1))
   where
-    go : (t : Bool) → g .holds ≡ t → isDone (pick t (g .code) (refusalOf gs)) ≡ true → (isDone (refusalOf gs) ≡ true → NoneHolds gs)
+    go : (t : Bool) → g .holds ≡ t → isDone (cond t (g .code) (refusalOf gs)) ≡ true → (isDone (refusalOf gs) ≡ true → NoneHolds gs)
         → (g .holds ≡ false) × NoneHolds gs
     go true h k rest = absurd (false≢true (sym (r .0) ∙ k))
     go false h k rest = (h, rest k)
@@ -91,8 +90,8 @@ unfolding refusalOf
 earlier-stop [] hs n = absurd (false≢true (sym n))
 earlier-stop (g ∷ gs) hs n = go (g .holds) n (earlier-stop gs hs)
   where
-    go : (t : Bool) → isDone (pick t (g .code) (refusalOf gs)) ≡ false → (isDone (refusalOf gs) ≡ false → refusalOf (gs ++ hs) ≡ refusalOf gs)
-        → pick t (g .code) (refusalOf (gs ++ hs)) ≡ pick t (g .code) (refusalOf gs)
+    go : (t : Bool) → isDone (cond t (g .code) (refusalOf gs)) ≡ false → (isDone (refusalOf gs) ≡ false → refusalOf (gs ++ hs) ≡ refusalOf gs)
+        → cond t (g .code) (refusalOf (gs ++ hs)) ≡ cond t (g .code) (refusalOf gs)
     go true k rest = refl
     go false k rest = rest k
 

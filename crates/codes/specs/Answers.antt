@@ -1,9 +1,8 @@
 -- The codes and notes of an answer, with their numbers, and how a call's refusals are ordered.
-use mathlib.Core.Bool.{Bool, _||_}
+use mathlib.Core.Bool.{Bool, _||_, cond}
 use mathlib.Core.List.{List, [], _∷_}
 use Prim.Native.Nat.{ℕ}
 use lib.Dec.{ltb, eqb}
-use Rattle.lists.specs.Choice.{pick}
 use Rattle.codes.specs.declared.Code.{Code}
 use Rattle.codes.specs.declared.Code.the-variants.{Done, NoRoom, QueueFull, BadCommand, NotCarried, AlreadySo, NotInForce, BadMacroByte, TooLong, Unanswered, NoText, EchoAgainstRcte, BadValue, OutputWaits}
 use Rattle.codes.specs.declared.Note.{Note}
@@ -58,8 +57,8 @@ pub record Guard : Type 0 where
   pub holds : Bool
   pub code : Code
 
-abbrev pub when : Bool → Code → Guard
-when b c = record { holds = b; code = c }
+abbrev pub refusedIf : Bool → Code → Guard
+refusedIf b c = record { holds = b; code = c }
 
 -- every code but Done is a refusal
 abbrev pub isDone : Code → Bool
@@ -68,9 +67,9 @@ isDone c = eqb (codeNumber c) 0
 -- the code of the first guard that holds, in the order of the list; Done if none does
 unfoldable pub refusalOf : List Guard → Code
 refusalOf [] = Done
-refusalOf (g ∷ gs) = pick (g .holds) (g .code) (refusalOf gs)
+refusalOf (g ∷ gs) = cond (g .holds) (g .code) (refusalOf gs)
 
 -- a call's answer: that of the first guard that holds, in the order of the list, else what the call does
 unfoldable pub guarded : {A : Type 0} → List Guard → (Code → A) → A → A
 guarded [] refused done = done
-guarded (g ∷ gs) refused done = pick (g .holds) (refused (g .code)) (guarded gs refused done)
+guarded (g ∷ gs) refused done = cond (g .holds) (refused (g .code)) (guarded gs refused done)

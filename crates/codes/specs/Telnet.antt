@@ -19,8 +19,30 @@ GA = 249
 abbrev pub SB : ℕ
 SB = 250
 
+abbrev pub WILL : ℕ
+WILL = 251
+
+abbrev pub WONT : ℕ
+WONT = 252
+
+abbrev pub DO : ℕ
+DO = 253
+
+abbrev pub DONT : ℕ
+DONT = 254
+
 abbrev pub IAC : ℕ
 IAC = 255
+
+-- the characters of a carriage return: a Line is CR LF, Char(13) is CR NUL
+abbrev pub NUL : ℕ
+NUL = 0
+
+abbrev pub LF : ℕ
+LF = 10
+
+abbrev pub CR : ℕ
+CR = 13
 
 abbrev pub ECHO : ℕ
 ECHO = 1
@@ -62,10 +84,10 @@ abbrev pub DS : ℕ
 DS = 1
 
 abbrev pub verbNumber : Verb → ℕ
-verbNumber Will = 251
-verbNumber Wont = 252
-verbNumber Do = 253
-verbNumber Dont = 254
+verbNumber Will = WILL
+verbNumber Wont = WONT
+verbNumber Do = DO
+verbNumber Dont = DONT
 
 -- a command that a key or a text item may be, and that does nothing when it is read
 abbrev pub plainCommand : ℕ → Bool

@@ -22,6 +22,13 @@ pub const DONT: u8 = 254;
 
 pub const IAC: u8 = 255;
 
+// What Line and Char(13) are on the wire: CR LF and CR NUL.
+pub const NUL: u8 = 0;
+
+pub const LF: u8 = 10;
+
+pub const CR: u8 = 13;
+
 // The options that are carried.
 pub const ECHO: u8 = 1;
 

@@ -1,12 +1,12 @@
 -- Which values pad, and what a padded list is then.
 use mathlib.Core.Path.{_≡_}
-use mathlib.Core.Bool.{Bool, true, false}
+use mathlib.Core.Bool.{Bool, true, false, cond}
 use mathlib.Core.List.{List, _++_}
 use Prim.Native.Nat.{ℕ, _+_, _≤_, _<_}
 use native.Mathlib.Omega.{arith}
 use borrow.Author.Tests.{le-leb, lt-leb}
 use lib.ListN.{length, replicate, length-append}
-use Rattle.lists.specs.Choice.{pick, between}
+use Rattle.lists.specs.Choice.{between}
 use Rattle.disposition.specs.Returns.{padded}
 
 module _ (n : ℕ) (bytes : List ℕ) where
@@ -32,6 +32,6 @@ module _ (n : ℕ) (bytes : List ℕ) where
   unfolding padded
   at-least = go (between 1 250 n)
     where
-      go : (b : Bool) → length bytes ≤ length (pick b (bytes ++ replicate n 0) bytes)
+      go : (b : Bool) → length bytes ≤ length (cond b (bytes ++ replicate n 0) bytes)
       go true = simp length-append (omega arith)
       go false = omega arith

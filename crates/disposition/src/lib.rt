@@ -2,7 +2,7 @@
 ghost use mathlib.Core.Path.{_≡_};
 ghost use mathlib.Core.List.{[], _∷_};
 ghost use lib.ListN.{replicate};
-ghost use Rattle.lists.specs.Buffers.{RoomFor, Wrote};
+ghost use Rattle.lists.specs.Buffers.{lent, WroteAtStart, RoomFor};
 ghost use Rattle.disposition.specs.Returns.{
   unspoken,
   withDs,
@@ -10,6 +10,7 @@ ghost use Rattle.disposition.specs.Returns.{
   suggestion,
   handling,
   handlingWhile,
+  reportOf,
   suggestGuards,
   awaits,
   isReturn,
@@ -20,12 +21,14 @@ ghost use Rattle.disposition.specs.Returns.{
 };
 ghost use Rattle.keys.specs.declared.Key.the-variants.{Char};
 ghost use Rattle.codes.specs.Answers.{refusalOf};
+use codes::CR;
 use codes::Code;
+use codes::DR;
+use codes::DS;
+use codes::LF;
 use codes::NAOCRD;
-use keys::CR;
+use codes::NUL;
 use keys::Key;
-use keys::LF;
-use keys::NUL;
 
 // DS and DR as they count until they are suggested.
 const UNSPOKEN_DS: u8 = 255;
@@ -75,7 +78,7 @@ pub fn with_dr(v: Values, dr: u8) -> Values
 // A value as its end suggests it, who being DR or DS.
 pub fn put_suggestion(who: u8, v: u8, out: &mut [u8]) -> usize
     requires { ⌜ RoomFor (suggestion who v) (now out) ⌝ }
-    ensures { λ r. ⌜ Wrote (suggestion who v) (now (out .entry)) (now (out .exit)) r ⌝ }
+    ensures { λ r. ⌜ WroteAtStart (suggestion who v) (lent out) r ⌝ }
 {
     let body = [NAOCRD, who, v];
     wire::put_frame(&body, out)
@@ -100,6 +103,26 @@ pub fn handling_while(on: bool, v: Values) -> Handling
         return handling_of(v);
     }
     Handling::Receiver(UNSPOKEN_DS)
+}
+
+// A report in numbers: who handles, as DR and DS are numbered ..
+pub fn handler_number(h: Handling) -> u8
+    ensures { λ r. ⌜ r ≡ reportOf h .who ⌝ }
+{
+    match h {
+        Handling::Sender(_) => DS,
+        Handling::Receiver(_) => DR,
+    }
+}
+
+// .. and by which value.
+pub fn handling_value(h: Handling) -> u8
+    ensures { λ r. ⌜ r ≡ reportOf h .value ⌝ }
+{
+    match h {
+        Handling::Sender(n) => n,
+        Handling::Receiver(n) => n,
+    }
 }
 
 // The refusals of a suggestion behind code 1, in their order; own is the value that counts for this end. Done: none.
@@ -142,7 +165,7 @@ pub fn is_return(k: Key) -> bool
 // n NULs at the start of out; their count.
 fn put_nuls(n: u8, out: &mut [u8]) -> usize
     requires { ⌜ RoomFor (replicate n 0) (now out) ⌝ }
-    ensures { λ r. ⌜ Wrote (replicate n 0) (now (out .entry)) (now (out .exit)) r ⌝ }
+    ensures { λ r. ⌜ WroteAtStart (replicate n 0) (lent out) r ⌝ }
 {
     let count = n as usize;
     let mut i: usize = 0;
@@ -156,7 +179,7 @@ fn put_nuls(n: u8, out: &mut [u8]) -> usize
 // CR and the byte behind it, with the NULs that a value asks for.
 fn put_padded(second: u8, n: u8, out: &mut [u8]) -> usize
     requires { ⌜ RoomFor (padded n (13 ∷ second ∷ [])) (now out) ⌝ }
-    ensures { λ r. ⌜ Wrote (padded n (13 ∷ second ∷ [])) (now (out .entry)) (now (out .exit)) r ⌝ }
+    ensures { λ r. ⌜ WroteAtStart (padded n (13 ∷ second ∷ [])) (lent out) r ⌝ }
 {
     out[0] = CR;
     out[1] = second;
@@ -169,7 +192,7 @@ fn put_padded(second: u8, n: u8, out: &mut [u8]) -> usize
 // A Line as this end sends it.
 fn put_line(h: Handling, out: &mut [u8]) -> usize
     requires { ⌜ RoomFor (lineBytes h) (now out) ⌝ }
-    ensures { λ r. ⌜ Wrote (lineBytes h) (now (out .entry)) (now (out .exit)) r ⌝ }
+    ensures { λ r. ⌜ WroteAtStart (lineBytes h) (lent out) r ⌝ }
 {
     match h {
         Handling::Sender(n) => {
@@ -187,7 +210,7 @@ fn put_line(h: Handling, out: &mut [u8]) -> usize
 // Char(13) as this end sends it.
 fn put_return(h: Handling, out: &mut [u8]) -> usize
     requires { ⌜ RoomFor (returnBytes h) (now out) ⌝ }
-    ensures { λ r. ⌜ Wrote (returnBytes h) (now (out .entry)) (now (out .exit)) r ⌝ }
+    ensures { λ r. ⌜ WroteAtStart (returnBytes h) (lent out) r ⌝ }
 {
     match h {
         Handling::Sender(n) => {
@@ -204,7 +227,7 @@ fn put_return(h: Handling, out: &mut [u8]) -> usize
 // A typed character's data.
 fn put_char(h: Handling, b: u8, out: &mut [u8]) -> usize
     requires { ⌜ RoomFor (itemData h (Char b)) (now out) ⌝ }
-    ensures { λ r. ⌜ Wrote (itemData h (Char b)) (now (out .entry)) (now (out .exit)) r ⌝ }
+    ensures { λ r. ⌜ WroteAtStart (itemData h (Char b)) (lent out) r ⌝ }
 {
     if b == CR {
         return put_return(h, out);
@@ -216,7 +239,7 @@ fn put_char(h: Handling, b: u8, out: &mut [u8]) -> usize
 // The data of a text item; a Command has none.
 pub fn put_item(h: Handling, k: Key, out: &mut [u8]) -> usize
     requires { ⌜ RoomFor (itemData h k) (now out) ⌝ }
-    ensures { λ r. ⌜ Wrote (itemData h k) (now (out .entry)) (now (out .exit)) r ⌝ }
+    ensures { λ r. ⌜ WroteAtStart (itemData h k) (lent out) r ⌝ }
 {
     match k {
         Key::Char(b) => put_char(h, b, out),

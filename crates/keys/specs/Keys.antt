@@ -1,16 +1,16 @@
 -- Keys: their classes, their paper and their bytes on the wire.
-use mathlib.Core.Bool.{Bool, true, false, _||_, not}
+use mathlib.Core.Bool.{Bool, true, false, _||_, not, cond}
 use mathlib.Core.List.{List, [], _∷_}
 use Prim.Native.Nat.{ℕ, _-_, _/_, _%_, _^_}
 use lib.Dec.{leb, eqb}
-use Rattle.lists.specs.Choice.{pick, between, oneOf}
-use Rattle.codes.specs.Telnet.{plainCommand}
+use Rattle.lists.specs.Choice.{between, oneOf}
+use Rattle.codes.specs.Telnet.{plainCommand, IAC, NUL, LF, CR}
 use Rattle.keys.specs.declared.Key.{Key}
 use Rattle.keys.specs.declared.Key.the-variants.{Char, Line, Command}
 
 -- BS HT LF VT FF CR
 abbrev pub formatEffectors : List ℕ
-formatEffectors = 8 ∷ 9 ∷ 10 ∷ 11 ∷ 12 ∷ 13 ∷ []
+formatEffectors = 8 ∷ 9 ∷ LF ∷ 11 ∷ 12 ∷ CR ∷ []
 
 -- . , ; : ? !
 abbrev pub punctuation : List ℕ
@@ -27,15 +27,15 @@ symbols = 39 ∷ 34 ∷ 47 ∷ 92 ∷ 37 ∷ 64 ∷ 36 ∷ 38 ∷ 35 ∷ 43 ∷ 
 -- a byte's class, 0 for none
 unfoldable pub classOf : ℕ → ℕ
 classOf b =
-    pick (between 65 90 b) 1
-    (pick (between 97 122 b) 2
-    (pick (between 48 57 b) 3
-    (pick (oneOf formatEffectors b) 4
-    (pick (leb b 31 || eqb b 127) 5
-    (pick (oneOf punctuation b) 6
-    (pick (oneOf brackets b) 7
-    (pick (oneOf symbols b) 8
-    (pick (eqb b 32) 9 0))))))))
+    cond (between 65 90 b) 1
+    (cond (between 97 122 b) 2
+    (cond (between 48 57 b) 3
+    (cond (oneOf formatEffectors b) 4
+    (cond (leb b 31 || eqb b 127) 5
+    (cond (oneOf punctuation b) 6
+    (cond (oneOf brackets b) 7
+    (cond (oneOf symbols b) 8
+    (cond (eqb b 32) 9 0))))))))
 
 abbrev pub keyClass : Key → ℕ
 keyClass (Char b) = classOf b
@@ -55,7 +55,7 @@ badCommand (Command c) = not (plainCommand c)
 
 -- a class pair is one number, its high byte first, and bit k - 1 of it stands for class k; there are nine classes
 abbrev pub classBit : ℕ → ℕ → ℕ
-classBit pair k = pick (between 1 9 k) (pair / 2 ^ (k - 1) % 2) 0
+classBit pair k = cond (between 1 9 k) (pair / 2 ^ (k - 1) % 2) 0
 
 unfoldable pub inClasses : ℕ → ℕ → Bool
 inClasses pair k = eqb (classBit pair k) 1
@@ -65,11 +65,11 @@ unfoldable pub prints : ℕ → Bool
 prints b = not (eqb (classOf b) 0 || eqb (classOf b) 5)
 
 unfoldable pub keyPaper : Key → List ℕ
-keyPaper (Char b) = pick (prints b) (b ∷ []) []
-keyPaper Line = 13 ∷ 10 ∷ []
+keyPaper (Char b) = cond (prints b) (b ∷ []) []
+keyPaper Line = CR ∷ LF ∷ []
 keyPaper (Command c) = []
 
 unfoldable pub keyWire : Key → List ℕ
-keyWire (Char b) = pick (eqb b 13) (13 ∷ 0 ∷ []) (pick (eqb b 255) (255 ∷ 255 ∷ []) (b ∷ []))
-keyWire Line = 13 ∷ 10 ∷ []
-keyWire (Command c) = 255 ∷ c ∷ []
+keyWire (Char b) = cond (eqb b CR) (CR ∷ NUL ∷ []) (cond (eqb b IAC) (IAC ∷ IAC ∷ []) (b ∷ []))
+keyWire Line = CR ∷ LF ∷ []
+keyWire (Command c) = IAC ∷ c ∷ []

@@ -1,15 +1,10 @@
 // A key of the printer end's keyboard, and an item of the bulletin end's text.
 ghost use mathlib.Core.Path.{_≡_};
-ghost use Rattle.lists.specs.Buffers.{RoomFor, Wrote};
+ghost use Rattle.lists.specs.Buffers.{lent, WroteAtStart, RoomFor};
 ghost use Rattle.keys.specs.Keys.{badCommand, classOf, keyClass, classBit, inClasses, isCommand, prints, keyPaper};
-ghost use Rattle.keys.specs.Packing.{packed, unpacked};
-
-// What Line and Char(13) are on the wire: CR LF and CR NUL.
-pub const CR: u8 = 13;
-
-pub const LF: u8 = 10;
-
-pub const NUL: u8 = 0;
+ghost use Rattle.keys.specs.Refinement.{keyNumber, keyOfNumber};
+use codes::CR;
+use codes::LF;
 
 // Char and Line are typed characters; a Command is one of Telnet's codes 241 to 249.
 pub enum Key {
@@ -105,7 +100,7 @@ pub fn prints(b: u8) -> bool
 // A key's paper, at the start of out.
 pub fn put_paper(k: Key, out: &mut [u8]) -> usize
     requires { ⌜ RoomFor (keyPaper k) (now out) ⌝ }
-    ensures { λ r. ⌜ Wrote (keyPaper k) (now (out .entry)) (now (out .exit)) r ⌝ }
+    ensures { λ r. ⌜ WroteAtStart (keyPaper k) (lent out) r ⌝ }
 {
     match k {
         Key::Char(b) => {
@@ -130,8 +125,8 @@ const LINE: u16 = 256;
 const COMMAND: u16 = 512;
 
 // A key as one number, for a queue.
-pub fn pack(k: Key) -> u16
-    ensures { λ r. ⌜ r ≡ packed k ⌝ }
+pub fn key_number(k: Key) -> u16
+    ensures { λ r. ⌜ r ≡ keyNumber k ⌝ }
 {
     match k {
         Key::Char(b) => b as u16,
@@ -140,8 +135,8 @@ pub fn pack(k: Key) -> u16
     }
 }
 
-pub fn unpack(n: u16) -> Key
-    ensures { λ r. ⌜ r ≡ unpacked n ⌝ }
+pub fn key_of_number(n: u16) -> Key
+    ensures { λ r. ⌜ r ≡ keyOfNumber n ⌝ }
 {
     if n < LINE {
         return Key::Char(n as u8);

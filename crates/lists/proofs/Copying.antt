@@ -6,7 +6,7 @@ use native.Mathlib.Numerals.{add-one}
 use native.Mathlib.Omega.{arith}
 use lib.ListN.{length, take, drop, set, getD, length-take}
 use lib.Seq.{take-suc, take-add, drop-at, length-take-le}
-use Rattle.lists.specs.Buffers.{Wrote, RoomFor}
+use Rattle.lists.specs.Buffers.{Lent, lentAs, WroteAtStart, RoomFor}
 use Rattle.lists.proofs.Parts.{same-long, wrote-more}
 
 pub map-drop : {X Y : Type 0} (f : X → Y) (n : ℕ) (xs : List X) → map f (drop n xs) ≡ drop n (map f xs)
@@ -27,13 +27,13 @@ drop-capped (suc m) (suc n) (x ∷ xs) e = drop-capped m n xs (omega arith)
 pub cut-from : (l : List ℕ) (from n : ℕ) → from ≤ length l → take n (drop from l) ≡ drop from (take (from + n) l)
 cut-from l from n h = rw (take-add from n l) (sym (drop-at (take from l) (take n (drop from l)) from (length-take-le from l h)))
 
-module _ (src before now : List ℕ) (n : ℕ) (room : RoomFor src before) (w : Wrote (take n src) before now n) where
-  room-copied : RoomFor (take n src) before
+module _ (src : List ℕ) {out : Lent} {n : ℕ} (room : RoomFor src (out .before)) (w : WroteAtStart (take n src) out n) where
+  room-copied : RoomFor (take n src) (out .before)
   room-copied = simp length-take (omega arith)
 
-  pub copied-long : length now ≡ length before
+  pub copied-long : length (out .after) ≡ length (out .before)
   copied-long = same-long w room-copied
 
-  pub copied-more : n < length src → Wrote (take (n + 1) src) before (set now n (getD src n 0)) (n + 1)
+  pub copied-more : n < length src → WroteAtStart (take (n + 1) src) (lentAs (out .before) (set (out .after) n (getD src n 0))) (n + 1)
   copied-more h =
       rw (add-one n, take-suc src n 0 h) (rw add-one at (wrote-more w room-copied (getD src n 0) (omega arith)))

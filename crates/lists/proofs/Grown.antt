@@ -6,18 +6,18 @@ use native.Mathlib.Omega.{arith}
 use lib.ListN.{length, take, drop, take-append-drop}
 use lib.Seq.{take-at, drop-drop, length-take-le}
 use borrow.Rule.Slice.PartMut.{putMid}
-use Rattle.lists.specs.Buffers.{Wrote, RoomFor, Clean}
+use Rattle.lists.specs.Buffers.{lentAs, untouched, WroteAtStart, RoomFor, Clean}
 use Rattle.lists.proofs.Parts.{wrote-then, same-long, unused}
 use Rattle.lists.proofs.Zeros.{drop-replicate}
 
 -- an array has its own beginning written in it
-own-start : (cells : List ℕ) (n : ℕ) → n ≤ length cells → Wrote (take n cells) cells cells n
+own-start : (cells : List ℕ) (n : ℕ) → n ≤ length cells → WroteAtStart (take n cells) (untouched cells) n
 own-start cells n h =
     let len : length (take n cells) ≡ n = length-take-le n cells h in
     record { count = sym len; cells = rw len (sym (take-append-drop n cells)) }
 
-module _ (cells bytes last : List ℕ) (cap n m : ℕ) (l : length cells ≡ cap) (room : n + length bytes ≤ cap) (w : Wrote bytes (take (cap - n) (drop n cells)) last m) where
-  grown-wrote : Wrote (take n cells ++ bytes) cells (putMid n (cap - n) cells last) (n + m)
+module _ (cells bytes last : List ℕ) (cap n m : ℕ) (l : length cells ≡ cap) (room : n + length bytes ≤ cap) (w : WroteAtStart bytes (lentAs (take (cap - n) (drop n cells)) last) m) where
+  grown-wrote : WroteAtStart (take n cells ++ bytes) (lentAs cells (putMid n (cap - n) cells last)) (n + m)
   grown-wrote =
       let h : n ≤ length cells = omega arith in
       let len : length (take n cells) ≡ n = length-take-le n cells h in
@@ -39,5 +39,5 @@ module _ (cells bytes last : List ℕ) (cap n m : ℕ) (l : length cells ≡ cap
       let zeros : length cells - n - m ≡ length cells - (n + m) = omega arith in
       record {
         within = omega (arith, w .count);
-        zeros = rw (long, unused grown-wrote fits, past, clean .zeros, drop-replicate {X = ℕ} m (length cells - n) 0, zeros);
+        zeros = rw (long, unused grown-wrote, past, clean .zeros, drop-replicate {X = ℕ} m (length cells - n) 0, zeros);
       }

@@ -1,28 +1,26 @@
 -- How long lists become, and laws of every element of a list.
 use mathlib.Core.Path.{_≡_, refl}
-use mathlib.Core.Bool.{Bool, true, false}
-use mathlib.Core.List.{List, [], _∷_, _++_}
+use mathlib.Core.Bool.{Bool, true, false, cond}
+use mathlib.Core.List.{List, [], _∷_, _++_, flatMap}
 use Prim.Native.Nat.{ℕ, zero, suc, _+_, _*_, _≤_}
 use native.Mathlib.Nat.{mul-suc}
 use native.Mathlib.Omega.{arith}
 use lib.ListN.{length, getD, set, take, drop, replicate, length-append}
 use lib.Seq.{getD-drop}
-use Rattle.lists.specs.Choice.{pick}
-use Rattle.lists.specs.Lists.{joined}
 
 -- what holds of both choices, each under its test, holds of the choice
-pub chosen : {X : Type 0} (P : X → Type 0) (b : Bool) {x y : X} → (b ≡ true → P x) → (b ≡ false → P y) → P (pick b x y)
+pub chosen : {X : Type 0} (P : X → Type 0) (b : Bool) {x y : X} → (b ≡ true → P x) → (b ≡ false → P y) → P (cond b x y)
 chosen P true f g = f refl
 chosen P false f g = g refl
 
-pub either : {X : Type 0} (P : X → Type 0) (b : Bool) {x y : X} → P x → P y → P (pick b x y)
+pub either : {X : Type 0} (P : X → Type 0) (b : Bool) {x y : X} → P x → P y → P (cond b x y)
 either P b p q = chosen P b (λ e. p) (λ e. q)
 
 -- a run of at most k elements for each
-pub joined-within : {X Y : Type 0} (f : X → List Y) (k : ℕ) → ((x : X) → length (f x) ≤ k) → (xs : List X) → length (joined f xs) ≤ k * length xs
-unfolding joined
-joined-within f k h [] = omega arith
-joined-within f k h (x ∷ xs) = rw mul-suc (simp length-append (omega (arith, h x, joined-within f k h xs)))
+pub flatMap-within : {X Y : Type 0} (f : X → List Y) (k : ℕ) → ((x : X) → length (f x) ≤ k) → (xs : List X) → length (flatMap f xs) ≤ k * length xs
+unfolding flatMap
+flatMap-within f k h [] = omega arith
+flatMap-within f k h (x ∷ xs) = rw mul-suc (simp length-append (omega (arith, h x, flatMap-within f k h xs)))
 
 module _ {X : Type 0} (P : X → Type 0) (d : X) where
   pub every-set : (l : List X) (i : ℕ) (v : X) → P v → ((j : ℕ) → P (getD l j d)) → (j : ℕ) → P (getD (set l i v) j d)

@@ -1,7 +1,7 @@
 pub mod Tables
 pub mod Starts
 pub mod Parts
-pub mod Joined
+pub mod FlatMap
 pub mod Appended
 pub mod Lengths
 pub mod Uniform

@@ -7,49 +7,54 @@ use native.Mathlib.Omega.{arith}
 use lib.ListN.{length, take, drop, set, getD, length-append, length-drop, drop-of-length-le}
 use lib.Seq.{take-all, drop-drop, take-at, drop-at, drop-cons, set-at, append-snoc}
 use borrow.Rule.Slice.PartMut.{putMid}
-use Rattle.lists.specs.Buffers.{Wrote, RoomFor}
+use Rattle.lists.specs.Buffers.{Lent, lentAs, WroteAtStart, RoomFor}
+
+-- the part behind the first n bytes, as it is lent on, and the buffer with that part as it came back
+abbrev pub restOf : Lent → ℕ → List ℕ
+restOf out n = take (length (out .after) - n) (drop n (out .after))
+
+abbrev pub withRest : Lent → ℕ → List ℕ → Lent
+withRest out n last = lentAs (out .before) (putMid n (length (out .after) - n) (out .after) last)
 
 -- what is written keeps the buffer's length
-pub same-long : {bytes before after : List ℕ} {n : ℕ} → Wrote bytes before after n → RoomFor bytes before → length after ≡ length before
-same-long {bytes} {before} w room =
+pub same-long : {bytes : List ℕ} {out : Lent} {n : ℕ} → WroteAtStart bytes out n → RoomFor bytes (out .before) → length (out .after) ≡ length (out .before)
+same-long w room =
     rw (w .cells) (simp (length-append, length-drop) (omega arith))
 
 -- a count is within the buffer
-pub counted : {bytes before after : List ℕ} {n : ℕ} → Wrote bytes before after n → RoomFor bytes before → n ≤ length before
+pub counted : {bytes : List ℕ} {out : Lent} {n : ℕ} → WroteAtStart bytes out n → RoomFor bytes (out .before) → n ≤ length (out .before)
 counted w room = rw (w .count) room
 
-module _ {done before mid : List ℕ} {n : ℕ} (w : Wrote done before mid n) (room : RoomFor done before) where
-  -- what is unused of the buffer
-  pub unused : drop n mid ≡ drop (length done) before
-  unused = rw (w .count, w .cells) (drop-at done (drop (length done) before) (length done) refl)
+-- what is unused of the buffer
+pub unused : {bytes : List ℕ} {out : Lent} {n : ℕ} → WroteAtStart bytes out n → drop n (out .after) ≡ drop (length bytes) (out .before)
+unused {bytes} {out} w = rw (w .count, w .cells) (drop-at bytes (drop (length bytes) (out .before)) (length bytes) refl)
 
-  pub lent-part : take (length mid - n) (drop n mid) ≡ drop (length done) before
+module _ {done : List ℕ} {out : Lent} {n : ℕ} (w : WroteAtStart done out n) (room : RoomFor done (out .before)) where
+  pub lent-part : restOf out n ≡ drop (length done) (out .before)
   lent-part =
-      rw unused (take-all (length mid - n) (drop (length done) before) (simp length-drop (omega (arith, w .count, same-long w room))))
+      rw (unused w) (take-all (length (out .after) - n) (drop (length done) (out .before)) (simp length-drop (omega (arith, w .count, same-long w room))))
 
   -- the part that is lent has room for what still fits the whole
-  pub part-room : (cs : List ℕ) → RoomFor (done ++ cs) before → RoomFor cs (take (length mid - n) (drop n mid))
+  pub part-room : (cs : List ℕ) → RoomFor (done ++ cs) (out .before) → RoomFor cs (restOf out n)
   part-room cs h = rw lent-part (simp length-drop (omega (arith, simp length-append at h)))
 
-  pub wrote-then : (cs last : List ℕ) (k : ℕ) → Wrote cs (take (length mid - n) (drop n mid)) last k
-      → Wrote (done ++ cs) before (putMid n (length mid - n) mid last) (n + k)
+  pub wrote-then : (cs last : List ℕ) (k : ℕ) → WroteAtStart cs (lentAs (restOf out n) last) k
+      → WroteAtStart (done ++ cs) (withRest out n last) (n + k)
   wrote-then cs last k v =
-      let head : take (length done) mid ≡ done = rw (w .cells) (take-at done (drop (length done) before) (length done) refl) in
-      let none : drop (length mid - length done) (drop (length done) mid) ≡ [] = drop-of-length-le (drop (length done) mid) {i = length mid - length done} (simp length-drop (omega arith)) in
-      let part : last ≡ cs ++ drop (length cs) (drop (length done) before) = rw lent-part at (v .cells) in
-      record {
-        count = rw (w .count, v .count) (sym (length-append done cs));
-        cells = rw (w .count, head, none, part) (simp (append-nil, append-assoc, length-append, drop-drop));
-      }
+      let head : take (length done) (out .after) ≡ done = rw (w .cells) (take-at done (drop (length done) (out .before)) (length done) refl) in
+      let none : drop (length (out .after) - length done) (drop (length done) (out .after)) ≡ [] = drop-of-length-le (drop (length done) (out .after)) {i = length (out .after) - length done} (simp length-drop (omega arith)) in
+      let part : last ≡ cs ++ drop (length cs) (drop (length done) (out .before)) = rw lent-part at (v .cells) in
+      let whole : putMid n (length (out .after) - n) (out .after) last ≡ (done ++ cs) ++ drop (length (done ++ cs)) (out .before) = rw (w .count, head, none, part) (simp (append-nil, append-assoc, length-append, drop-drop)) in
+      record { count = rw (w .count, v .count) (sym (length-append done cs)); cells = whole }
 
   -- one byte stored behind them
-  pub wrote-more : (x : ℕ) → n < length before → Wrote (done ++ x ∷ []) before (set mid n x) (n + 1)
+  pub wrote-more : (x : ℕ) → n < length (out .before) → WroteAtStart (done ++ x ∷ []) (lentAs (out .before) (set (out .after) n x)) (n + 1)
   wrote-more x h =
-      let inside : length done < length before = omega (arith, w .count) in
-      let next : drop (length done) before ≡ getD before (length done) 0 ∷ drop (suc (length done)) before = drop-cons before (length done) 0 inside in
-      let stored : set (done ++ getD before (length done) 0 ∷ drop (suc (length done)) before) (length done) x ≡ done ++ x ∷ drop (suc (length done)) before = set-at done (getD before (length done) 0) (drop (suc (length done)) before) x (length done) refl in
+      let inside : length done < length (out .before) = omega (arith, w .count) in
+      let next : drop (length done) (out .before) ≡ getD (out .before) (length done) 0 ∷ drop (suc (length done)) (out .before) = drop-cons (out .before) (length done) 0 inside in
+      let stored : set (done ++ getD (out .before) (length done) 0 ∷ drop (suc (length done)) (out .before)) (length done) x ≡ done ++ x ∷ drop (suc (length done)) (out .before) = set-at done (getD (out .before) (length done) 0) (drop (suc (length done)) (out .before)) x (length done) refl in
       let long : length (done ++ x ∷ []) ≡ suc (length done) = length-append done (x ∷ []) ∙ add-one (length done) in
       record {
         count = rw (w .count, long) (add-one (length done));
-        cells = rw (w .cells, w .count, next, stored, long) (sym (append-snoc done x (drop (suc (length done)) before)));
+        cells = rw (w .cells, w .count, next, stored, long) (sym (append-snoc done x (drop (suc (length done)) (out .before))));
       }

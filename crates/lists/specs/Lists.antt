@@ -6,11 +6,6 @@ unfoldable pub sum : List ℕ → ℕ
 sum [] = 0
 sum (n ∷ ns) = n + sum ns
 
--- f of each element, one after the other
-unfoldable pub joined : {X Y : Type 0} → (X → List Y) → List X → List Y
-joined f [] = []
-joined f (x ∷ xs) = f x ++ joined f xs
-
 -- f of each element and of the one at its place in the second list; d where that list has ended
 unfoldable pub paired : {X Y Z : Type 0} → (X → Y → Z) → Y → List X → List Y → List Z
 paired f d [] ys = []

@@ -1,3 +1,3 @@
-pub mod Apart
 pub mod Replies
 pub mod Outcomes
+pub mod Apart

@@ -1,10 +1,9 @@
 -- Which sides each end carries, and when a request is agreed.
-use mathlib.Core.Bool.{Bool, true, false, _&&_, not}
+use mathlib.Core.Bool.{Bool, true, false, _&&_, not, cond}
 use mathlib.Core.List.{List, [], _∷_}
 use Prim.Native.Nat.{ℕ, _%_}
 use lib.Dec.{ltb, eqb}
-use Rattle.lists.specs.Choice.{pick}
-use Rattle.codes.specs.Answers.{Guard, when, guarded}
+use Rattle.codes.specs.Answers.{Guard, refusedIf, guarded}
 use Rattle.codes.specs.declared.Code.{Code}
 use Rattle.codes.specs.declared.Code.the-variants.{NotCarried, AlreadySo, EchoAgainstRcte}
 use Rattle.codes.specs.Telnet.{ECHO, SGA, RCTE, NAOCRD, BM, otherSide, whoseOf, enables}
@@ -15,8 +14,8 @@ use Rattle.codes.specs.declared.Whose.{Whose}
 use Rattle.codes.specs.declared.Whose.the-variants.{His, Ours}
 use Rattle.negotiation.specs.declared.End.{End}
 use Rattle.negotiation.specs.declared.End.the-variants.{Printer, Bulletin}
-use Rattle.negotiation.specs.declared.Standing.{Standing}
-use Rattle.negotiation.specs.declared.Standing.the-variants.{No}
+use Rattle.negotiation.specs.declared.OptionState.{OptionState}
+use Rattle.negotiation.specs.declared.OptionState.the-variants.{No}
 use Rattle.negotiation.specs.declared.Reply.{Reply}
 use Rattle.negotiation.specs.declared.Reply.the-variants.{Silent, Positive, Negative}
 use Rattle.negotiation.specs.declared.Side.{Side}
@@ -27,16 +26,16 @@ use Rattle.negotiation.specs.declared.Asked.{Asked}
 use Rattle.negotiation.specs.declared.Asked.the-variants.{Already, Moves}
 use Rattle.negotiation.specs.declared.Asking.{Asking}
 use Rattle.negotiation.specs.declared.Turn.{Turn}
-use Rattle.negotiation.specs.Table.{to, isNo, isYes, stillOn, heard, asked, isAlready}
+use Rattle.negotiation.specs.Table.{to, isNo, isYes, isYesOrEnding, heard, asked, isAlready}
 
 -- what the printer end carries: four options on his side, two on ours
 unfoldable pub printerSide : Whose → ℕ → Side
 printerSide His option =
-    pick (eqb option ECHO) Echo
-    (pick (eqb option SGA) BulletinSga
-    (pick (eqb option RCTE) Rcte
-    (pick (eqb option BM) Macro Uncarried)))
-printerSide Ours option = pick (eqb option SGA) PrinterSga (pick (eqb option NAOCRD) Returns Uncarried)
+    cond (eqb option ECHO) Echo
+    (cond (eqb option SGA) BulletinSga
+    (cond (eqb option RCTE) Rcte
+    (cond (eqb option BM) Macro Uncarried)))
+printerSide Ours option = cond (eqb option SGA) PrinterSga (cond (eqb option NAOCRD) Returns Uncarried)
 
 -- the bulletin end carries the mirror of this
 abbrev pub carriedSide : End → Whose → ℕ → Side
@@ -52,16 +51,16 @@ isCarried PrinterSga = true
 isCarried Returns = true
 isCarried Uncarried = false
 
-abbrev pub standing : Sides → Side → Standing
-standing s Echo = s .echo
-standing s BulletinSga = s .sga
-standing s Rcte = s .rcte
-standing s Macro = s .bm
-standing s PrinterSga = s .printersga
-standing s Returns = s .naocrd
-standing s Uncarried = No
+abbrev pub stateOf : Sides → Side → OptionState
+stateOf s Echo = s .echo
+stateOf s BulletinSga = s .sga
+stateOf s Rcte = s .rcte
+stateOf s Macro = s .bm
+stateOf s PrinterSga = s .printersga
+stateOf s Returns = s .naocrd
+stateOf s Uncarried = No
 
-abbrev pub moved : Sides → Side → Standing → Sides
+abbrev pub moved : Sides → Side → OptionState → Sides
 moved s Echo q = record { echo = q; sga = s .sga; rcte = s .rcte; bm = s .bm; printersga = s .printersga; naocrd = s .naocrd }
 moved s BulletinSga q = record { echo = s .echo; sga = q; rcte = s .rcte; bm = s .bm; printersga = s .printersga; naocrd = s .naocrd }
 moved s Rcte q = record { echo = s .echo; sga = s .sga; rcte = q; bm = s .bm; printersga = s .printersga; naocrd = s .naocrd }
@@ -74,18 +73,18 @@ abbrev pub allNo : Sides
 allNo = record { echo = No; sga = No; rcte = No; bm = No; printersga = No; naocrd = No }
 
 -- ECHO is not agreed or asked for while RCTE is away from NO, nor the reverse
-abbrev pub free : Sides → Side → Bool
-free s Echo = isNo (s .rcte)
-free s BulletinSga = true
-free s Rcte = isNo (s .echo)
-free s Macro = true
-free s PrinterSga = true
-free s Returns = true
-free s Uncarried = false
+abbrev pub mayEnable : Sides → Side → Bool
+mayEnable s Echo = isNo (s .rcte)
+mayEnable s BulletinSga = true
+mayEnable s Rcte = isNo (s .echo)
+mayEnable s Macro = true
+mayEnable s PrinterSga = true
+mayEnable s Returns = true
+mayEnable s Uncarried = false
 
 -- the clash that refuses an ask: it would enable the side from NO
 unfoldable pub clashes : Sides → Side → Bool → Bool
-clashes s side enable = enable && isNo (standing s side) && not (free s side)
+clashes s side enable = enable && isNo (stateOf s side) && not (mayEnable s side)
 
 -- the verb that a reply or a request goes out as
 abbrev pub replyVerb : Whose → Bool → Verb
@@ -106,7 +105,7 @@ declined false = Silent
 
 -- in force means YES; of BM at the printer end also that it is asked to end
 abbrev pub macrosInForce : End → Sides → Bool
-macrosInForce Printer s = stillOn (s .bm)
+macrosInForce Printer s = isYesOrEnding (s .bm)
 macrosInForce Bulletin s = isYes (s .bm)
 
 -- what a negotiation received comes to: a carried side follows the table; of an uncarried option a request is declined
@@ -115,7 +114,7 @@ turned whose side h = record { side = side; next = h .next; whose = whose; reply
 
 abbrev pub heardOf : Sides → Whose → Side → Bool → Turn
 heardOf s whose side enable =
-    pick (isCarried side) (turned whose side (heard enable (free s side) (standing s side)))
+    cond (isCarried side) (turned whose side (heard enable (mayEnable s side) (stateOf s side)))
     (turned whose side (to No (declined enable)))
 
 unfoldable pub heardBy : End → Sides → Verb → ℕ → Turn
@@ -123,10 +122,10 @@ heardBy end s v option = heardOf s (whoseOf v) (carriedSide end (whoseOf v) opti
 
 -- the ways of an ask: 0 and 1 disable and enable his side, 2 and 3 ours; another names no side
 abbrev pub askedWhose : ℕ → Whose
-askedWhose way = pick (ltb way 2) His Ours
+askedWhose way = cond (ltb way 2) His Ours
 
 unfoldable pub askedSide : End → ℕ → ℕ → Side
-askedSide end option way = pick (ltb 3 way) Uncarried (carriedSide end (askedWhose way) option)
+askedSide end option way = cond (ltb 3 way) Uncarried (carriedSide end (askedWhose way) option)
 
 abbrev pub askedEnable : ℕ → Bool
 askedEnable way = eqb (way % 2) 1
@@ -134,9 +133,9 @@ askedEnable way = eqb (way % 2) 1
 -- the refusals of an ask behind code 1
 abbrev pub askGuards : Sides → Side → Bool → List Guard
 askGuards sides side enable =
-    when (not (isCarried side)) NotCarried
-    ∷ when (clashes sides side enable) EchoAgainstRcte
-    ∷ when (isAlready (asked enable (standing sides side))) AlreadySo
+    refusedIf (not (isCarried side)) NotCarried
+    ∷ refusedIf (clashes sides side enable) EchoAgainstRcte
+    ∷ refusedIf (isAlready (asked enable (stateOf sides side))) AlreadySo
     ∷ []
 
 -- what an ask comes to
@@ -145,9 +144,9 @@ asMoves Already = Asking.Refused AlreadySo
 asMoves (Moves q r) = Asking.Moves q r
 
 unfoldable pub askingOf : Sides → Side → Bool → Asking
-askingOf sides side enable = guarded (askGuards sides side enable) Asking.Refused (asMoves (asked enable (standing sides side)))
+askingOf sides side enable = guarded (askGuards sides side enable) Asking.Refused (asMoves (asked enable (stateOf sides side)))
 
 -- .. by what an end does with a refusal and with a side that moves
-abbrev pub askedBy : {A : Type 0} → (Code → A) → (Standing → Reply → A) → Asking → A
+abbrev pub askedBy : {A : Type 0} → (Code → A) → (OptionState → Reply → A) → Asking → A
 askedBy refused moves (Asking.Refused c) = refused c
 askedBy refused moves (Asking.Moves q r) = moves q r

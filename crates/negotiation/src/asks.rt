@@ -1,14 +1,14 @@
 // What an ask and a negotiation received come to, and replies and requests as they are written.
 ghost use mathlib.Core.Path.{_≡_};
-ghost use Rattle.lists.specs.Buffers.{RoomFor, Wrote};
+ghost use Rattle.lists.specs.Buffers.{lent, WroteAtStart, RoomFor};
 ghost use Rattle.negotiation.specs.Carried.{replyVerb, replyBytes, declined, askedSide, askedWhose, askedEnable, askingOf, heardBy};
 use crate::Asked;
 use crate::Asking;
 use crate::End;
+use crate::OptionState;
 use crate::Reply;
 use crate::Side;
 use crate::Sides;
-use crate::Standing;
 use crate::Turn;
 use crate::carried;
 use crate::table;
@@ -49,7 +49,7 @@ pub fn asking_of(sides: Sides, side: Side, enable: bool) -> Asking
     if carried::clashes(sides, side, enable) {
         return Asking::Refused(Code::EchoAgainstRcte);
     }
-    let asked = table::ask(enable, carried::standing_of(sides, side));
+    let asked = table::ask(enable, carried::state_of(sides, side));
     match asked {
         Asked::Already => Asking::Refused(Code::AlreadySo),
         Asked::Moves(q, reply) => Asking::Moves(q, reply),
@@ -74,8 +74,8 @@ pub fn heard_by(end: End, sides: Sides, v: Verb, option: u8) -> Turn
     let enable = codes::enables(v);
     let side = carried::carried_side(end, whose, option);
     if carried::is_carried(side) {
-        let agreed = carried::free(sides, side);
-        let h = table::hear(enable, agreed, carried::standing_of(sides, side));
+        let agreed = carried::may_enable(sides, side);
+        let h = table::hear(enable, agreed, carried::state_of(sides, side));
         let next = h.next;
         let reply = h.reply;
         return Turn {
@@ -88,7 +88,7 @@ pub fn heard_by(end: End, sides: Sides, v: Verb, option: u8) -> Turn
     let reply = declined(enable);
     Turn {
         side,
-        next: Standing::No,
+        next: OptionState::No,
         whose,
         reply,
     }
@@ -107,7 +107,7 @@ fn reply_verb(w: Whose, enable: bool) -> Verb
 // The bytes of a reply at the start of out; their count.
 pub fn put_reply(w: Whose, r: Reply, option: u8, out: &mut [u8]) -> usize
     requires { ⌜ RoomFor (replyBytes w r option) (now out) ⌝ }
-    ensures { λ n. ⌜ Wrote (replyBytes w r option) (now (out .entry)) (now (out .exit)) n ⌝ }
+    ensures { λ n. ⌜ WroteAtStart (replyBytes w r option) (lent out) n ⌝ }
 {
     match r {
         Reply::Silent => 0,

@@ -1,11 +1,11 @@
 // The sides that each end carries, their states, and ECHO against RCTE.
 ghost use mathlib.Core.Path.{_≡_};
 ghost use Rattle.negotiation.specs.Table.{isYes};
-ghost use Rattle.negotiation.specs.Carried.{printerSide, carriedSide, isCarried, standing, moved, allNo, free, clashes, macrosInForce};
+ghost use Rattle.negotiation.specs.Carried.{printerSide, carriedSide, isCarried, stateOf, moved, allNo, mayEnable, clashes, macrosInForce};
 use crate::End;
+use crate::OptionState;
 use crate::Side;
 use crate::Sides;
-use crate::Standing;
 use crate::table;
 use codes::BM;
 use codes::ECHO;
@@ -58,8 +58,8 @@ pub fn is_carried(side: Side) -> bool
     }
 }
 
-pub fn standing_of(s: Sides, side: Side) -> Standing
-    ensures { λ r. ⌜ r ≡ standing s side ⌝ }
+pub fn state_of(s: Sides, side: Side) -> OptionState
+    ensures { λ r. ⌜ r ≡ stateOf s side ⌝ }
 {
     match side {
         Side::Echo => s.echo,
@@ -68,17 +68,17 @@ pub fn standing_of(s: Sides, side: Side) -> Standing
         Side::Macro => s.bm,
         Side::PrinterSga => s.printersga,
         Side::Returns => s.naocrd,
-        Side::Uncarried => Standing::No,
+        Side::Uncarried => OptionState::No,
     }
 }
 
 fn sides_of(
-    echo: Standing,
-    sga: Standing,
-    rcte: Standing,
-    bm: Standing,
-    printersga: Standing,
-    naocrd: Standing,
+    echo: OptionState,
+    sga: OptionState,
+    rcte: OptionState,
+    bm: OptionState,
+    printersga: OptionState,
+    naocrd: OptionState,
 ) -> Sides
     ensures { λ r. ⌜ r ≡ record { echo = echo; sga = sga; rcte = rcte; bm = bm; printersga = printersga; naocrd = naocrd } ⌝ }
 {
@@ -97,17 +97,17 @@ pub fn all_no() -> Sides
     ensures { λ r. ⌜ r ≡ allNo ⌝ }
 {
     Sides {
-        echo: Standing::No,
-        sga: Standing::No,
-        rcte: Standing::No,
-        bm: Standing::No,
-        printersga: Standing::No,
-        naocrd: Standing::No,
+        echo: OptionState::No,
+        sga: OptionState::No,
+        rcte: OptionState::No,
+        bm: OptionState::No,
+        printersga: OptionState::No,
+        naocrd: OptionState::No,
     }
 }
 
 // The sides with one of them at q.
-pub fn moved(s: Sides, side: Side, q: Standing) -> Sides
+pub fn moved(s: Sides, side: Side, q: OptionState) -> Sides
     ensures { λ r. ⌜ r ≡ moved s side q ⌝ }
 {
     let echo = s.echo;
@@ -128,8 +128,8 @@ pub fn moved(s: Sides, side: Side, q: Standing) -> Sides
 }
 
 // Whether a request of the side is agreed: ECHO is not while RCTE is away from NO, nor the reverse.
-pub fn free(s: Sides, side: Side) -> bool
-    ensures { λ r. ⌜ r ≡ free s side ⌝ }
+pub fn may_enable(s: Sides, side: Side) -> bool
+    ensures { λ r. ⌜ r ≡ mayEnable s side ⌝ }
 {
     let echo = s.echo;
     let rcte = s.rcte;
@@ -148,32 +148,32 @@ pub fn free(s: Sides, side: Side) -> bool
 pub fn echo_in_force(s: Sides) -> bool
     ensures { λ r. ⌜ r ≡ isYes (s .echo) ⌝ }
 {
-    let standing = s.echo;
-    table::is_yes(standing)
+    let state = s.echo;
+    table::is_yes(state)
 }
 
 pub fn rcte_in_force(s: Sides) -> bool
     ensures { λ r. ⌜ r ≡ isYes (s .rcte) ⌝ }
 {
-    let standing = s.rcte;
-    table::is_yes(standing)
+    let state = s.rcte;
+    table::is_yes(state)
 }
 
 pub fn returns_in_force(s: Sides) -> bool
     ensures { λ r. ⌜ r ≡ isYes (s .naocrd) ⌝ }
 {
-    let standing = s.naocrd;
-    table::is_yes(standing)
+    let state = s.naocrd;
+    table::is_yes(state)
 }
 
 // BM is in force at YES; at the printer end until the other end has said that it stopped.
 pub fn macros_in_force(end: End, s: Sides) -> bool
     ensures { λ r. ⌜ r ≡ macrosInForce end s ⌝ }
 {
-    let standing = s.bm;
+    let state = s.bm;
     match end {
-        End::Printer => table::still_on(standing),
-        End::Bulletin => table::is_yes(standing),
+        End::Printer => table::is_yes_or_ending(state),
+        End::Bulletin => table::is_yes(state),
     }
 }
 
@@ -182,7 +182,7 @@ pub fn clashes(s: Sides, side: Side, enable: bool) -> bool
     ensures { λ r. ⌜ r ≡ clashes s side enable ⌝ }
 {
     if enable {
-        table::is_no(standing_of(s, side)) && !free(s, side)
+        table::is_no(state_of(s, side)) && !may_enable(s, side)
     } else {
         false
     }

@@ -19,7 +19,7 @@ pub use carried::moved;
 pub use carried::rcte_in_force;
 pub use carried::returns_in_force;
 pub use table::is_yes;
-pub use table::still_on;
+pub use table::is_yes_or_ending;
 
 // The two ends of the line.
 pub enum End {
@@ -28,7 +28,7 @@ pub enum End {
 }
 
 // The state of one side of one option; Opposite marks a queued request.
-pub enum Standing {
+pub enum OptionState {
     No,
     Yes,
     WantNo,
@@ -46,26 +46,26 @@ pub enum Reply {
 
 // A negotiation received leads to a state and a reply.
 pub struct Heard {
-    pub next: Standing,
+    pub next: OptionState,
     pub reply: Reply,
 }
 
 // An ask is already so or already asked, or leads to a state and a request.
 pub enum Asked {
     Already,
-    Moves(Standing, Reply),
+    Moves(OptionState, Reply),
 }
 
 // What an ask comes to: a refusal (codes 4, 11, 5), or a state and a request.
 pub enum Asking {
     Refused(Code),
-    Moves(Standing, Reply),
+    Moves(OptionState, Reply),
 }
 
 // What a negotiation received comes to: the side that it is about, its next state, and the reply.
 pub struct Turn {
     pub side: Side,
-    pub next: Standing,
+    pub next: OptionState,
     pub whose: Whose,
     pub reply: Reply,
 }
@@ -83,10 +83,10 @@ pub enum Side {
 
 // The states of the six carried sides: what the bulletin end performs, then what the printer end does.
 pub struct Sides {
-    pub echo: Standing,
-    pub sga: Standing,
-    pub rcte: Standing,
-    pub bm: Standing,
-    pub printersga: Standing,
-    pub naocrd: Standing,
+    pub echo: OptionState,
+    pub sga: OptionState,
+    pub rcte: OptionState,
+    pub bm: OptionState,
+    pub printersga: OptionState,
+    pub naocrd: OptionState,
 }

@@ -2,15 +2,16 @@
 use mathlib.Core.Path.{refl}
 use mathlib.Core.List.{List}
 use Prim.Native.Nat.{ℕ}
+use Rattle.lists.specs.Buffers.{Lent, untouched}
 use Rattle.lists.proofs.Starts.{wrote-none}
 use Rattle.codes.specs.declared.Code.{Code}
-use Rattle.printer.specs.declared.Printer as code-printer
+use Rattle.printer.specs.declared.Printer.{Printer}
 use Rattle.printer.specs.declared.Step.{Step}
-use Rattle.printer.specs.State.{Did, done, refused}
-use Rattle.printer.specs.Kept.{viewPrinter, Whole, MetStep, MetAnswer, refusal, answered}
+use Rattle.printer.specs.State.{Effect, done, refused}
+use Rattle.printer.specs.Refinement.{viewPrinter, WholePrinter, RefinesStep, RefinesOutcome, refusal, answered}
 
 -- a refusal, whatever its code
-pub met-refused : {p : code-printer.Printer} {c : Code} {paper wire : List ℕ} → MetAnswer (refused (viewPrinter p) c) p paper paper wire wire (refusal p c)
+pub met-refused : {p : Printer} {c : Code} {paper wire : List ℕ} → RefinesOutcome (refused (viewPrinter p) c) p (untouched paper) (untouched wire) (refusal p c)
 met-refused {p} {c} {paper} {wire} = record {
   code = refl;
   note = refl;
@@ -22,8 +23,7 @@ met-refused {p} {c} {paper} {wire} = record {
 }
 
 -- a step that was done
-pub met-done : {d : Did} {p : code-printer.Printer} {paperBefore paperAfter wireBefore wireAfter : List ℕ} {r : Step} → MetStep d p paperBefore paperAfter wireBefore wireAfter r → Whole (r .state)
-    → MetAnswer (done d) p paperBefore paperAfter wireBefore wireAfter (answered r)
+pub met-done : {d : Effect} {p : Printer} {paper wire : Lent} {r : Step} → RefinesStep d p paper wire r → WholePrinter (r .state) → RefinesOutcome (done d) p paper wire (answered r)
 met-done m w = record {
   code = refl;
   note = m .note;

@@ -1,10 +1,9 @@
 -- Which way a network byte is read.
 use mathlib.Core.Path.{_≡_, refl, ap, _∙_}
-use mathlib.Core.Bool.{Bool, true, false, _&&_, _||_, not, false≢true}
+use mathlib.Core.Bool.{Bool, true, false, _&&_, _||_, not, false≢true, cond}
 use mathlib.Core.List.{[], _∷_}
 use Prim.Native.Nat.{ℕ}
-use Rattle.lists.specs.Choice.{pick}
-use Rattle.macros.specs.Texts.{Entry, plain, entryOf}
+use Rattle.received_macros.specs.Texts.{Entry, plain, entryOf}
 use borrow.Author.Tests.{not-true}
 use lib.Dec.{eqb}
 use Rattle.lists.proofs.Tables.{both-left, both-right}
@@ -13,11 +12,11 @@ use Rattle.reader.specs.declared.Phase.{Phase}
 use Rattle.reader.specs.declared.Phase.the-variants.{Between, AfterIac, AfterVerb, InBody, InBodyAfterIac}
 use Rattle.reader.specs.declared.Item.the-variants.{Data}
 use Rattle.reader.specs.Reading.{read, readIn, gives, byteBy, isBetween, isData}
-use Rattle.printer.specs.State.{Printer, withReader, printing, rcteOn, macrosOn}
-use Rattle.printer.specs.Kept.{isOrdinary}
+use Rattle.printer.specs.State.{PrinterState, withReader, printing, rcteInForce, bmInForce}
+use Rattle.printer.specs.Refinement.{isOrdinary}
 use Rattle.printer.specs.Network.{dataRead, itemRead, byteRead, entryRead, networkRead}
 
-both-same : {D : Type 0} (t : Bool) (x y : D) → x ≡ y → pick t x y ≡ y
+both-same : {D : Type 0} (t : Bool) (x y : D) → x ≡ y → cond t x y ≡ y
 both-same true x y e = e
 both-same false x y e = refl
 
@@ -29,7 +28,7 @@ between InBody e = absurd (false≢true e)
 between InBodyAfterIac e = absurd (false≢true e)
 
 -- data, for which the reader stays as it is
-pub data-byte : (s : Printer) (b : ℕ) → isData (s .reader .phase) b ≡ true → byteRead s b ≡ dataRead s b
+pub data-byte : (s : PrinterState) (b : ℕ) → isData (s .reader .phase) b ≡ true → byteRead s b ≡ dataRead s b
 unfolding byteRead read
 data-byte s b e =
     let plain = not-true (eqb b IAC) (both-left (not (eqb b IAC)) (isBetween (s .reader .phase)) e) in
@@ -38,40 +37,40 @@ data-byte s b e =
     ap (byteBy withReader itemRead s) as-read
 
 -- a byte that stands for itself
-pub plain-read : (s : Printer) (b : ℕ) → entryOf (s .table) b ≡ plain → networkRead s b ≡ byteRead s b
+pub plain-read : (s : PrinterState) (b : ℕ) → entryOf (s .table) b ≡ plain → networkRead s b ≡ byteRead s b
 unfolding networkRead
 plain-read s b e =
-    both-same (macrosOn s && isBetween (s .reader .phase)) (entryRead s b (entryOf (s .table) b)) (byteRead s b) (ap (λ (x : Entry). entryRead s b x) e)
+    both-same (bmInForce s && isBetween (s .reader .phase)) (entryRead s b (entryOf (s .table) b)) (byteRead s b) (ap (λ (x : Entry). entryRead s b x) e)
 
 -- BM is not in force
-pub off-read : (s : Printer) (b : ℕ) → macrosOn s ≡ false → networkRead s b ≡ byteRead s b
+pub off-read : (s : PrinterState) (b : ℕ) → bmInForce s ≡ false → networkRead s b ≡ byteRead s b
 unfolding networkRead
-off-read s b e = ap (λ (t : Bool). pick (t && isBetween (s .reader .phase)) (entryRead s b (entryOf (s .table) b)) (byteRead s b)) e
+off-read s b e = ap (λ (t : Bool). cond (t && isBetween (s .reader .phase)) (entryRead s b (entryOf (s .table) b)) (byteRead s b)) e
 
 and-false : (t : Bool) → (t && false) ≡ false
 and-false true = refl
 and-false false = refl
 
 -- inside a command
-pub inside-read : (s : Printer) (b : ℕ) → isBetween (s .reader .phase) ≡ false → networkRead s b ≡ byteRead s b
+pub inside-read : (s : PrinterState) (b : ℕ) → isBetween (s .reader .phase) ≡ false → networkRead s b ≡ byteRead s b
 unfolding networkRead
 inside-read s b e =
-    let f : (macrosOn s && isBetween (s .reader .phase)) ≡ false = rw (e, and-false) in
-    ap (λ (t : Bool). pick t (entryRead s b (entryOf (s .table) b)) (byteRead s b)) f
+    let f : (bmInForce s && isBetween (s .reader .phase)) ≡ false = rw (e, and-false) in
+    ap (λ (t : Bool). cond t (entryRead s b (entryOf (s .table) b)) (byteRead s b)) f
 
 -- the byte's entry decides
-pub chosen-read : (s : Printer) (b : ℕ) → macrosOn s ≡ true → isBetween (s .reader .phase) ≡ true → networkRead s b ≡ entryRead s b (entryOf (s .table) b)
+pub chosen-read : (s : PrinterState) (b : ℕ) → bmInForce s ≡ true → isBetween (s .reader .phase) ≡ true → networkRead s b ≡ entryRead s b (entryOf (s .table) b)
 unfolding networkRead
 chosen-read s b m t =
-    let f : (macrosOn s && isBetween (s .reader .phase)) ≡ true = rw (m, t) in
-    ap (λ (x : Bool). pick x (entryRead s b (entryOf (s .table) b)) (byteRead s b)) f
+    let f : (bmInForce s && isBetween (s .reader .phase)) ≡ true = rw (m, t) in
+    ap (λ (x : Bool). cond x (entryRead s b (entryOf (s .table) b)) (byteRead s b)) f
 
 -- an ordinary byte is printed, and nothing else happens
-pub ordinary-read : (s : Printer) (b : ℕ) → isOrdinary (s .sides) (s .reader .phase) b ≡ true → networkRead s b ≡ printing (b ∷ []) s
+pub ordinary-read : (s : PrinterState) (b : ℕ) → isOrdinary (s .sides) (s .reader .phase) b ≡ true → networkRead s b ≡ printing (b ∷ []) s
 unfolding dataRead
-ordinary-read s b e = go (macrosOn s) (rcteOn s) refl refl e
+ordinary-read s b e = go (bmInForce s) (rcteInForce s) refl refl e
   where
-    go : (m r : Bool) → macrosOn s ≡ m → rcteOn s ≡ r → not (m || r) && isData (s .reader .phase) b ≡ true → networkRead s b ≡ printing (b ∷ []) s
+    go : (m r : Bool) → bmInForce s ≡ m → rcteInForce s ≡ r → not (m || r) && isData (s .reader .phase) b ≡ true → networkRead s b ≡ printing (b ∷ []) s
     go true r p q f = absurd (false≢true f)
     go false true p q f = absurd (false≢true f)
     go false false p q f = off-read s b p ∙ data-byte s b f ∙ (rw q)

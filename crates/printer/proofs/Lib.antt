@@ -11,3 +11,10 @@ pub mod Choosing
 pub mod Texts
 pub mod Invariant
 pub mod EmptyTable
+pub mod FreshPrinter
+pub mod Apart
+pub mod Acts
+pub mod Planned
+pub mod Order
+pub mod KeyOrder
+pub mod UnusedTails

@@ -2,22 +2,23 @@
 use mathlib.Core.Path.{_≡_, refl}
 use mathlib.Core.List.{List}
 use Prim.Native.Nat.{ℕ}
+use Rattle.lists.specs.Buffers.{untouched}
 use Rattle.lists.proofs.Starts.{wrote-none}
 use Rattle.codes.specs.declared.Note.{Note}
-use Rattle.printer.specs.declared.Printer as code-printer
+use Rattle.printer.specs.declared.Printer.{Printer}
 use Rattle.printer.specs.declared.Step.{Step}
-use Rattle.printer.specs.State.{Printer, notes}
+use Rattle.printer.specs.State.{PrinterState, notes}
 use Rattle.codes.specs.declared.Note.the-variants.{Clear}
-use Rattle.printer.specs.Kept.{viewPrinter, CleanPrinter, MetStep, MetQuiet, MetQuietly}
+use Rattle.printer.specs.Refinement.{viewPrinter, CleanPrinter, RefinesStep, RefinesState, RefinesStepUnwritten}
 use Rattle.printer.specs.State.{nothing}
 
-abbrev pub quietStep : Note → code-printer.Printer → Step
+abbrev pub quietStep : Note → Printer → Step
 quietStep n p = record { note = n; paper = 0; wire = 0; state = p }
 
 -- a step that writes nothing, of a rule that does not either
-pub met-quietly : (n : Note) (p t : code-printer.Printer) (s : Printer) → viewPrinter t ≡ s → (CleanPrinter p → CleanPrinter t)
-    → MetQuietly (notes n s) p (quietStep n t)
-met-quietly n p t s v k = record {
+pub met-unwritten : (n : Note) (p t : Printer) (s : PrinterState) → viewPrinter t ≡ s → (CleanPrinter p → CleanPrinter t)
+    → RefinesStepUnwritten (notes n s) p (quietStep n t)
+met-unwritten n p t s v k = record {
   met = λ paper wire. record {
     note = refl;
     wrote = record { paper = wrote-none paper; wire = wrote-none wire };
@@ -27,7 +28,7 @@ met-quietly n p t s v k = record {
 }
 
 -- a step that only changes the state
-pub met-still : (p t : code-printer.Printer) (s : Printer) → MetQuiet (nothing s) p t → (paper wire : List ℕ) → MetStep (nothing s) p paper paper wire wire (quietStep Clear t)
+pub met-still : (p t : Printer) (s : PrinterState) → RefinesState (nothing s) p t → (paper wire : List ℕ) → RefinesStep (nothing s) p (untouched paper) (untouched wire) (quietStep Clear t)
 met-still p t s m paper wire = record {
   note = refl;
   wrote = record { paper = wrote-none paper; wire = wrote-none wire };

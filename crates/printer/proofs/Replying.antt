@@ -2,29 +2,31 @@
 use mathlib.Core.List.{List}
 use Prim.Native.Nat.{ℕ, _+_, _-_, _≤_}
 use native.Mathlib.Omega.{arith}
-use lib.ListN.{length, take, drop, length-append}
-use borrow.Rule.Slice.PartMut.{putMid}
-use Rattle.lists.specs.Buffers.{Wrote, RoomFor}
-use Rattle.lists.proofs.Parts.{wrote-then, part-room, counted, same-long}
+use lib.ListN.{length, length-append}
+use Rattle.lists.specs.Buffers.{Lent, lentAs, WroteAtStart, RoomFor}
+use Rattle.lists.proofs.Parts.{restOf, withRest, wrote-then, part-room, counted, same-long}
 use Rattle.negotiation.specs.declared.Side.{Side}
-use Rattle.negotiation.specs.declared.Standing.{Standing}
-use Rattle.printer.specs.State.{Printer}
-use Rattle.printer.specs.Network.{sideMoved, replied}
+use Rattle.negotiation.specs.declared.OptionState.{OptionState}
+use Rattle.printer.specs.State.{PrinterState}
+use Rattle.printer.specs.Network.{sideMoved, movedWithReply}
 
-module _ (s : Printer) (side : Side) (q : Standing) (reply wireBefore : List ℕ) (room : RoomFor (replied s side q reply .wire) wireBefore) where
-  pub room-reply : RoomFor reply wireBefore
-  room-reply = omega (arith, simp length-append at room)
+module _ (s : PrinterState) (side : Side) (q : OptionState) (reply : List ℕ) where
+  pub room-reply : (wire : List ℕ) → RoomFor (movedWithReply s side q reply .wire) wire → RoomFor reply wire
+  room-reply wire room = omega (arith, simp length-append at room)
 
-  module _ (wireAfter : List ℕ) (n : ℕ) (w : Wrote reply wireBefore wireAfter n) where
-    pub reply-within : n ≤ length wireAfter
-    reply-within = omega (arith, counted w room-reply, same-long w room-reply)
+  module _ {wire : Lent} {n : ℕ} (room : RoomFor (movedWithReply s side q reply .wire) (wire .before)) (w : WroteAtStart reply wire n) where
+    fits : RoomFor reply (wire .before)
+    fits = room-reply (wire .before) room
 
-    pub room-rest : RoomFor (sideMoved s side q .wire) (take (length wireAfter - n) (drop n wireAfter))
-    room-rest = part-room w room-reply (sideMoved s side q .wire) (simp length-append (omega (arith, simp length-append at room)))
+    pub reply-within : n ≤ length (wire .after)
+    reply-within = omega (arith, counted w fits, same-long w fits)
 
-    pub both-wrote : (last : List ℕ) (m : ℕ) → Wrote (sideMoved s side q .wire) (take (length wireAfter - n) (drop n wireAfter)) last m
-        → Wrote (replied s side q reply .wire) wireBefore (putMid n (length wireAfter - n) wireAfter last) (n + m)
-    both-wrote last m v = wrote-then w room-reply (sideMoved s side q .wire) last m v
+    pub room-rest : RoomFor (sideMoved s side q .wire) (restOf wire n)
+    room-rest = part-room w fits (sideMoved s side q .wire) (simp length-append (omega (arith, simp length-append at room)))
 
-    pub both-counted : (last : List ℕ) (m : ℕ) → Wrote (sideMoved s side q .wire) (take (length wireAfter - n) (drop n wireAfter)) last m → n + m ≤ length wireBefore
-    both-counted last m v = counted (both-wrote last m v) room
+    module _ {last : List ℕ} {m : ℕ} (v : WroteAtStart (sideMoved s side q .wire) (lentAs (restOf wire n) last) m) where
+      pub both-wrote : WroteAtStart (movedWithReply s side q reply .wire) (withRest wire n last) (n + m)
+      both-wrote = wrote-then w fits (sideMoved s side q .wire) last m v
+
+      pub both-counted : n + m ≤ length (wire .before)
+      both-counted = counted both-wrote room

@@ -10,11 +10,11 @@ use Rattle.codes.specs.Answers.{firstNote}
 use Rattle.codes.specs.declared.Note.{Note}
 use Rattle.codes.specs.declared.Note.the-variants.{Clear, Unreadable, Inactive, OtherOption, Stray}
 use Rattle.negotiation.specs.declared.Side.the-variants.{Rcte}
-use Rattle.negotiation.specs.declared.Standing.{Standing}
+use Rattle.negotiation.specs.declared.OptionState.{OptionState}
 use Rattle.negotiation.specs.Table.{isYes}
 use Rattle.negotiation.specs.declared.Sides.{Sides}
 use Rattle.negotiation.specs.Carried.{moved}
-use Rattle.printer.specs.State.{Printer, Did, nothing, followed, rcteOn, withSides}
+use Rattle.printer.specs.State.{PrinterState, Effect, nothing, followed, rcteInForce, withSides}
 use Rattle.printer.specs.Network.{rcteMoved, sideMoved, byteRead, bytesRead}
 
 first-assoc : (a b c : Note) → firstNote (firstNote a b) c ≡ firstNote a (firstNote b c)
@@ -24,12 +24,12 @@ first-assoc Inactive b c = refl
 first-assoc OtherOption b c = refl
 first-assoc Stray b c = refl
 
-pub followed-assoc : (a b c : Did) → followed (followed a b) c ≡ followed a (followed b c)
+pub followed-assoc : (a b c : Effect) → followed (followed a b) c ≡ followed a (followed b c)
 followed-assoc a b c =
     rw (first-assoc (a .note) (b .note) (c .note), append-assoc (a .paper) (b .paper) (c .paper), append-assoc (a .wire) (b .wire) (c .wire), append-assoc (a .taken) (b .taken) (c .taken))
 
 -- the text read so far, and then its next byte
-pub text-next : (acc : Did) (text : List ℕ) (i : ℕ) → i < length text
+pub text-next : (acc : Effect) (text : List ℕ) (i : ℕ) → i < length text
     → followed acc (bytesRead (acc .state) (drop i text))
     ≡ followed (followed acc (byteRead (acc .state) (getD text i 0))) (bytesRead (byteRead (acc .state) (getD text i 0) .state) (drop (i + 1) text))
 unfolding bytesRead
@@ -45,16 +45,16 @@ first-clear OtherOption = refl
 first-clear Stray = refl
 
 -- a step behind which nothing happens
-pub followed-nothing : (d : Did) → followed d (nothing (d .state)) ≡ d
+pub followed-nothing : (d : Effect) → followed d (nothing (d .state)) ≡ d
 followed-nothing d = rw (first-clear (d .note), append-nil (d .paper), append-nil (d .wire), append-nil (d .taken))
 
 -- behind the last byte
-pub text-done : (acc : Did) → followed acc (bytesRead (acc .state) []) ≡ acc
+pub text-done : (acc : Effect) → followed acc (bytesRead (acc .state) []) ≡ acc
 unfolding bytesRead
 text-done acc = followed-nothing acc
 
 -- RCTE leaves YES
-pub rcte-ends : (s : Printer) (q : Standing) (x : Sides) → rcteOn s ≡ true → isYes q ≡ false → x ≡ moved (s .sides) Rcte q
+pub rcte-ends : (s : PrinterState) (q : OptionState) (x : Sides) → rcteInForce s ≡ true → isYes q ≡ false → x ≡ moved (s .sides) Rcte q
     → sideMoved s Rcte q ≡ rcteMoved true false (withSides s x)
 unfolding sideMoved
 rcte-ends s q x was on e =

@@ -10,15 +10,15 @@ use lib.ListN.{length, getD, take, drop, length-take, length-map}
 use Rattle.lists.specs.Buffers.{RoomFor}
 use Rattle.lists.proofs.Lengths.{either, every-replicate}
 use Rattle.codes.specs.Answers.{paperRoom, wireRoom, noRoom}
-use Rattle.macros.specs.declared.Texts.{Texts}
-use Rattle.macros.specs.Texts.{Table, plain, entryOf, textRoom}
-use Rattle.macros.specs.Packed.{lengths, entryAt, viewTexts}
-use Rattle.macros.proofs.Laws.{entry-at}
-use Rattle.printer.specs.declared.Printer as code-printer
-use Rattle.printer.specs.State.{Did}
+use Rattle.received_macros.specs.declared.Texts.{Texts}
+use Rattle.received_macros.specs.Texts.{Table, plain, entryOf, textRoom}
+use Rattle.received_macros.specs.Refinement.{lengths, entryAt, viewTexts}
+use Rattle.received_macros.proofs.Laws.{entry-at}
+use Rattle.printer.specs.declared.Printer.{Printer}
+use Rattle.printer.specs.State.{Effect}
 use Rattle.printer.specs.Limits.{textLimit, Sized, Fits}
-use Rattle.macros.specs.Packed.{textOf}
-use Rattle.printer.specs.Kept.{viewPrinter}
+use Rattle.received_macros.specs.Refinement.{textOf}
+use Rattle.printer.specs.Refinement.{viewPrinter}
 
 entry-short : (mark : ℕ) (cells : List ℕ) → length (textOf (entryAt mark cells)) ≤ textLimit
 entry-short mark cells = either (λ e. length (textOf e) ≤ textLimit) (eqb mark 0) (lit≤ tt) (simp length-take (omega arith))
@@ -30,7 +30,7 @@ texts-short t x =
     (every-replicate (λ e. length (textOf e) ≤ textLimit) plain 256 plain (lit≤ tt) (lit≤ tt) x)
     (rw (entry-at (t .marks) (t .cells) x) (entry-short (getD (t .marks) x 0) (drop (lengths (take x (t .marks))) (t .cells))))
 
-pub sized-view : (p : code-printer.Printer) → Sized (viewPrinter p)
+pub sized-view : (p : Printer) → Sized (viewPrinter p)
 sized-view p = record {
   waiting = simp (length-map, length-take) (omega arith);
   gathered = simp length-take (omega arith);
@@ -51,7 +51,7 @@ lent p w e = go (ltb p paperRoom) (ltb w wireRoom) refl refl e
     go false true f g e = absurd (false≢true (sym e))
     go false false f g e = record { paper = ltb-false p paperRoom f; wire = ltb-false w wireRoom g }
 
-pub room-for : (d : Did) (paper wire : List ℕ) → noRoom (length paper) (length wire) ≡ false → Fits d → RoomFor (d .paper) paper × RoomFor (d .wire) wire
+pub room-for : (d : Effect) (paper wire : List ℕ) → noRoom (length paper) (length wire) ≡ false → Fits d → RoomFor (d .paper) paper × RoomFor (d .wire) wire
 room-for d paper wire e f =
     let l = lent (length paper) (length wire) e in
     (omega (arith, l .paper, f .paper), omega (arith, l .wire, f .wire))

@@ -2,13 +2,14 @@
 use mathlib.Core.Path.{_≡_}
 use mathlib.Core.Bool.{false}
 use mathlib.Core.List.{List, List·Memᴰ}
-use Rattle.macros.specs.Texts.{noMacros}
-use Rattle.printer.specs.State.{Printer, macrosOn, Answer}
+use Rattle.received_macros.specs.Texts.{noMacros}
+use Rattle.printer.specs.State.{PrinterState, bmInForce, CallEffect}
 use Rattle.printer.specs.Session.{Call, session}
 
-abbrev pub EmptyWhileOff : Printer → Type 0
-EmptyWhileOff s = macrosOn s ≡ false → s .table ≡ noMacros
+abbrev pub EmptyWhileOff : PrinterState → Type 0
+EmptyWhileOff s = bmInForce s ≡ false → s .table ≡ noMacros
 
--- Every call of every session leaves it so, refused ones too. Ruled out: a text that outlives the BM for which it was defined.
+-- Assumed: any session. Promised: each call leaves an empty table, or BM in force. Ruled out: a text that outlives
+-- the BM for which it was defined; a DEFINE that is taken while BM is not in force.
 abbrev pub TableEmptied : Type 0
-TableEmptied = (cs : List Call) (a : Answer) → List·Memᴰ a (session cs) → EmptyWhileOff (a .did .state)
+TableEmptied = (cs : List Call) (a : CallEffect) → List·Memᴰ a (session cs) → EmptyWhileOff (a .effect .state)

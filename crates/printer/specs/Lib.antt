@@ -2,6 +2,9 @@ pub mod State
 pub mod Network
 pub mod Calls
 pub mod Session
+pub mod KeyOrder
+pub mod UnusedTails
 pub mod Limits
-pub mod Kept
+pub mod Refinement
 pub mod EmptyTable
+pub mod Apart

@@ -1,12 +1,12 @@
 // A subnegotiation's body at the printer end.
-ghost use Rattle.lists.specs.Buffers.{RoomFor};
+ghost use Rattle.lists.specs.Buffers.{lent, RoomFor};
 ghost use Rattle.bodies.specs.RcteBodies.{rcteBody};
 ghost use Rattle.bodies.specs.MacroBodies.{macroBody};
 ghost use Rattle.bodies.specs.ValueBodies.{valueBody};
 ghost use Rattle.codes.specs.Telnet.{DS};
-ghost use Rattle.macros.specs.Texts.{judged, verdictBytes};
-ghost use Rattle.printer.specs.Network.{rcteRead, valueRead, defineRead, macroRead, bodyHandled};
-ghost use Rattle.printer.specs.Kept.{viewPrinter, bodyEndRead, MetStep, MetQuietly, MetWire};
+ghost use Rattle.received_macros.specs.Texts.{judged, verdictBytes};
+ghost use Rattle.printer.specs.Network.{rcteRead, valueRead, defineJudged, macroRead, bodyHandled};
+ghost use Rattle.printer.specs.Refinement.{viewPrinter, bodyEndRead, RefinesStep, RefinesStepUnwritten, RefinesStepOnWire};
 use crate::Printer;
 use crate::Step;
 use crate::moves;
@@ -24,16 +24,16 @@ use subnegotiation::Checked;
 fn rcte_read(s: Printer, body: &[u8], paper: &mut [u8], wire: &mut [u8]) -> Step
     requires { ⌜ RoomFor (rcteRead (viewPrinter s) (rcteBody (now body)) .paper) (now paper) ⌝ }
     requires { ⌜ RoomFor (rcteRead (viewPrinter s) (rcteBody (now body)) .wire) (now wire) ⌝ }
-    ensures { λ r. ⌜ MetStep (rcteRead (viewPrinter s) (rcteBody (now (body .entry)))) s (now (paper .entry)) (now (paper .exit)) (now (wire .entry)) (now (wire .exit)) r ⌝ }
+    ensures { λ r. ⌜ RefinesStep (rcteRead (viewPrinter s) (rcteBody (now (body .entry)))) s (lent paper) (lent wire) r ⌝ }
 {
     let RcteBody::Readable(command) = bodies::rcte_body(body) else {
-        return moves::quiet(s, Note::Unreadable);
+        return moves::note_alone(s, Note::Unreadable);
     };
-    let control = s.echo;
-    let e = echo::commanded(control, command, paper, wire);
-    let after = e.echo;
+    let control = s.rcte;
+    let e = rcte::commanded(control, command, paper, wire);
+    let after = e.rcte;
     let mut t = s;
-    t.echo = after;
+    t.rcte = after;
     Step {
         note: Note::Clear,
         paper: e.paper,
@@ -44,28 +44,28 @@ fn rcte_read(s: Printer, body: &[u8], paper: &mut [u8], wire: &mut [u8]) -> Step
 
 // The bulletin end's value about carriage returns, with NAOCRD in force.
 fn value_read(s: Printer, body: &[u8]) -> Step
-    ensures { λ r. ⌜ MetQuietly (valueRead (viewPrinter s) (valueBody DS (now (body .entry)))) s r ⌝ }
+    ensures { λ r. ⌜ RefinesStepUnwritten (valueRead (viewPrinter s) (valueBody DS (now (body .entry)))) s r ⌝ }
 {
     let ValueBody::Readable(value) = bodies::value_body(DS, body) else {
-        return moves::quiet(s, Note::Unreadable);
+        return moves::note_alone(s, Note::Unreadable);
     };
     let old = s.values;
     let values = disposition::with_ds(old, value);
     let mut t = s;
     t.values = values;
-    moves::quiet(t, Note::Clear)
+    moves::note_alone(t, Note::Clear)
 }
 
 // A DEFINE of x; rest is its count and string.
 fn define_read(s: Printer, x: u8, rest: &[u8], wire: &mut [u8]) -> Step
     requires { ⌜ RoomFor (verdictBytes (judged (viewPrinter s .table) x (now rest)) x) (now wire) ⌝ }
-    ensures { λ r. ⌜ MetWire (defineRead (viewPrinter s) x (now (rest .entry)) (judged (viewPrinter s .table) x (now (rest .entry)))) s (now (wire .entry)) (now (wire .exit)) r ⌝ }
+    ensures { λ r. ⌜ RefinesStepOnWire (defineJudged (viewPrinter s) x (now (rest .entry))) s (lent wire) r ⌝ }
 {
     let old = s.table;
-    let d = macros::define(old, x, rest);
+    let d = received_macros::define(old, x, rest);
     let verdict = d.verdict;
     let table = d.table;
-    let n = macros::put_verdict(verdict, x, wire);
+    let n = received_macros::put_verdict(verdict, x, wire);
     let mut t = s;
     t.table = table;
     Step {
@@ -80,10 +80,10 @@ fn define_read(s: Printer, x: u8, rest: &[u8], wire: &mut [u8]) -> Step
 fn macro_read(s: Printer, body: &[u8], paper: &mut [u8], wire: &mut [u8]) -> Step
     requires { ⌜ RoomFor (macroRead (viewPrinter s) (now body) (macroBody (now body)) .paper) (now paper) ⌝ }
     requires { ⌜ RoomFor (macroRead (viewPrinter s) (now body) (macroBody (now body)) .wire) (now wire) ⌝ }
-    ensures { λ r. ⌜ MetStep (macroRead (viewPrinter s) (now (body .entry)) (macroBody (now (body .entry)))) s (now (paper .entry)) (now (paper .exit)) (now (wire .entry)) (now (wire .exit)) r ⌝ }
+    ensures { λ r. ⌜ RefinesStep (macroRead (viewPrinter s) (now (body .entry)) (macroBody (now (body .entry)))) s (lent paper) (lent wire) r ⌝ }
 {
     let MacroBody::Readable(command) = bodies::macro_body(body) else {
-        return moves::quiet(s, Note::Unreadable);
+        return moves::note_alone(s, Note::Unreadable);
     };
     match command {
         MacroCommand::Define(x) => define_read(s, x, &body[3..], wire),
@@ -95,10 +95,10 @@ fn macro_read(s: Printer, body: &[u8], paper: &mut [u8], wire: &mut [u8]) -> Ste
 fn handled(s: Printer, body: &[u8], checked: Checked, paper: &mut [u8], wire: &mut [u8]) -> Step
     requires { ⌜ RoomFor (bodyHandled (viewPrinter s) (now body) checked .paper) (now paper) ⌝ }
     requires { ⌜ RoomFor (bodyHandled (viewPrinter s) (now body) checked .wire) (now wire) ⌝ }
-    ensures { λ r. ⌜ MetStep (bodyHandled (viewPrinter s) (now (body .entry)) checked) s (now (paper .entry)) (now (paper .exit)) (now (wire .entry)) (now (wire .exit)) r ⌝ }
+    ensures { λ r. ⌜ RefinesStep (bodyHandled (viewPrinter s) (now (body .entry)) checked) s (lent paper) (lent wire) r ⌝ }
 {
     match checked {
-        Checked::Noted(note) => moves::quiet(s, note),
+        Checked::Noted(note) => moves::note_alone(s, note),
         Checked::Rcte => rcte_read(s, body, paper, wire),
         Checked::Returns => value_read(s, body),
         Checked::Macro => macro_read(s, body, paper, wire),
@@ -109,7 +109,7 @@ fn handled(s: Printer, body: &[u8], checked: Checked, paper: &mut [u8], wire: &m
 pub fn body_read(s: Printer, paper: &mut [u8], wire: &mut [u8]) -> Step
     requires { ⌜ RoomFor (bodyEndRead (viewPrinter s) .paper) (now paper) ⌝ }
     requires { ⌜ RoomFor (bodyEndRead (viewPrinter s) .wire) (now wire) ⌝ }
-    ensures { λ r. ⌜ MetStep (bodyEndRead (viewPrinter s)) s (now (paper .entry)) (now (paper .exit)) (now (wire .entry)) (now (wire .exit)) r ⌝ }
+    ensures { λ r. ⌜ RefinesStep (bodyEndRead (viewPrinter s)) s (lent paper) (lent wire) r ⌝ }
 {
     let kept = s.reader;
     let sides = s.sides;

@@ -1,12 +1,12 @@
 // The printer end's calls. None asks anything of its caller.
 ghost use mathlib.Core.Path.{_≡_};
 ghost use mathlib.Core.Bool.{false, _&&_};
-ghost use lib.ListN.{length};
-ghost use Rattle.echo.specs.Control.{isFull};
-ghost use Rattle.printer.specs.State.{rcteOn};
+ghost use Rattle.disposition.specs.Returns.{reportOf};
+ghost use Rattle.rcte.specs.Control.{isFull};
+ghost use Rattle.printer.specs.State.{rcteInForce};
 ghost use Rattle.printer.specs.Calls.{networkCall, keyCall, keyTyped, askCall, suggestCall, returnsReport};
-ghost use Rattle.lists.specs.Buffers.{RoomFor};
-ghost use Rattle.printer.specs.Kept.{Whole, viewPrinter, MetAnswer, MetStep, MetFresh, refusal, answered};
+ghost use Rattle.lists.specs.Buffers.{lent, RoomFor};
+ghost use Rattle.printer.specs.Refinement.{WholePrinter, viewPrinter, RefinesAnswer, RefinesStep, freshCells, refusal, answered};
 use crate::Answer;
 use crate::Printer;
 use crate::Step;
@@ -21,18 +21,18 @@ use negotiation::Asking;
 use negotiation::End;
 
 pub fn fresh() -> Printer
-    ensures { λ r. ⌜ MetFresh r ⌝ }
+    ensures { λ r. ⌜ r ≡ freshCells ⌝ }
 {
     let sides = negotiation::all_no();
     let reader = reader::idle();
-    let table = macros::empty();
-    let echo = echo::started();
+    let table = received_macros::empty();
+    let rcte = rcte::started();
     let values = disposition::unspoken();
     Printer {
         sides,
         reader,
         table,
-        echo,
+        rcte,
         values,
     }
 }
@@ -51,7 +51,7 @@ fn refused(s: Printer, code: Code) -> Answer
 }
 
 fn done(step: Step) -> Answer
-    ensures { λ r. ⌜ (r ≡ answered step) × Whole (step .state) ⌝ }
+    ensures { λ r. ⌜ (r ≡ answered step) × WholePrinter (step .state) ⌝ }
 {
     let state = step.state;
     let note = step.note;
@@ -65,7 +65,7 @@ fn done(step: Step) -> Answer
 }
 
 pub fn network_byte(s: Printer, b: u8, paper: &mut [u8], wire: &mut [u8]) -> Answer
-    ensures { λ r. ⌜ MetAnswer (networkCall (viewPrinter s) b (length (now (paper .entry))) (length (now (wire .entry)))) s (now (paper .entry)) (now (paper .exit)) (now (wire .entry)) (now (wire .exit)) r ⌝ }
+    ensures { λ r. ⌜ RefinesAnswer (networkCall (viewPrinter s) b) s (lent paper) (lent wire) r ⌝ }
 {
     if codes::no_room(paper.len(), wire.len()) {
         return refused(s, Code::NoRoom);
@@ -89,30 +89,30 @@ pub fn network_byte(s: Printer, b: u8, paper: &mut [u8], wire: &mut [u8]) -> Ans
 
 // RCTE holds keys back, and as many wait as can.
 fn queue_full(s: Printer) -> bool
-    ensures { λ r. ⌜ r ≡ (rcteOn (viewPrinter s) && isFull (viewPrinter s .echo)) ⌝ }
+    ensures { λ r. ⌜ r ≡ (rcteInForce (viewPrinter s) && isFull (viewPrinter s .rcte)) ⌝ }
 {
     let sides = s.sides;
     if negotiation::rcte_in_force(sides) {
-        let control = s.echo;
-        return echo::is_full(control);
+        let control = s.rcte;
+        return rcte::is_full(control);
     }
     false
 }
 
 // A key that nothing refuses.
 fn key_typed(s: Printer, k: Key, paper: &mut [u8], wire: &mut [u8]) -> Step
-    requires { ⌜ (rcteOn (viewPrinter s) && isFull (viewPrinter s .echo)) ≡ false ⌝ }
+    requires { ⌜ (rcteInForce (viewPrinter s) && isFull (viewPrinter s .rcte)) ≡ false ⌝ }
     requires { ⌜ RoomFor (keyTyped (viewPrinter s) k .paper) (now paper) ⌝ }
     requires { ⌜ RoomFor (keyTyped (viewPrinter s) k .wire) (now wire) ⌝ }
-    ensures { λ r. ⌜ MetStep (keyTyped (viewPrinter s) k) s (now (paper .entry)) (now (paper .exit)) (now (wire .entry)) (now (wire .exit)) r ⌝ }
+    ensures { λ r. ⌜ RefinesStep (keyTyped (viewPrinter s) k) s (lent paper) (lent wire) r ⌝ }
 {
     let sides = s.sides;
-    let control = s.echo;
+    let control = s.rcte;
     if negotiation::rcte_in_force(sides) {
-        let e = echo::pressed(control, k, paper, wire);
-        let after = e.echo;
+        let e = rcte::pressed(control, k, paper, wire);
+        let after = e.rcte;
         let mut t = s;
-        t.echo = after;
+        t.rcte = after;
         return Step {
             note: Note::Clear,
             paper: e.paper,
@@ -121,7 +121,7 @@ fn key_typed(s: Printer, k: Key, paper: &mut [u8], wire: &mut [u8]) -> Step
         };
     }
     let echoed = negotiation::echo_in_force(sides);
-    let sent = echo::send_key(k, echoed, paper, wire);
+    let sent = rcte::send_key(k, echoed, paper, wire);
     Step {
         note: Note::Clear,
         paper: sent.paper,
@@ -131,7 +131,7 @@ fn key_typed(s: Printer, k: Key, paper: &mut [u8], wire: &mut [u8]) -> Step
 }
 
 pub fn press(s: Printer, k: Key, paper: &mut [u8], wire: &mut [u8]) -> Answer
-    ensures { λ r. ⌜ MetAnswer (keyCall (viewPrinter s) k (length (now (paper .entry))) (length (now (wire .entry)))) s (now (paper .entry)) (now (paper .exit)) (now (wire .entry)) (now (wire .exit)) r ⌝ }
+    ensures { λ r. ⌜ RefinesAnswer (keyCall (viewPrinter s) k) s (lent paper) (lent wire) r ⌝ }
 {
     if codes::no_room(paper.len(), wire.len()) {
         return refused(s, Code::NoRoom);
@@ -148,7 +148,7 @@ pub fn press(s: Printer, k: Key, paper: &mut [u8], wire: &mut [u8]) -> Answer
 
 // An option is asked for or given up: ways 0 and 1 disable and enable his side, 2 and 3 ours.
 pub fn ask(s: Printer, option: u8, way: u8, paper: &mut [u8], wire: &mut [u8]) -> Answer
-    ensures { λ r. ⌜ MetAnswer (askCall (viewPrinter s) option way (length (now (paper .entry))) (length (now (wire .entry)))) s (now (paper .entry)) (now (paper .exit)) (now (wire .entry)) (now (wire .exit)) r ⌝ }
+    ensures { λ r. ⌜ RefinesAnswer (askCall (viewPrinter s) option way) s (lent paper) (lent wire) r ⌝ }
 {
     if codes::no_room(paper.len(), wire.len()) {
         return refused(s, Code::NoRoom);
@@ -161,7 +161,7 @@ pub fn ask(s: Printer, option: u8, way: u8, paper: &mut [u8], wire: &mut [u8]) -
         Asking::Refused(code) => refused(s, code),
         Asking::Moves(q, reply) => {
             let whose = negotiation::asked_whose(way);
-            let step = moves::replied(s, side, q, whose, reply, option, paper, wire);
+            let step = moves::moved_with_reply(s, side, q, whose, reply, option, paper, wire);
             done(step)
         }
     }
@@ -169,7 +169,7 @@ pub fn ask(s: Printer, option: u8, way: u8, paper: &mut [u8], wire: &mut [u8]) -
 
 // This end's value about carriage returns, DR.
 pub fn suggest(s: Printer, v: u8, paper: &mut [u8], wire: &mut [u8]) -> Answer
-    ensures { λ r. ⌜ MetAnswer (suggestCall (viewPrinter s) v (length (now (paper .entry))) (length (now (wire .entry)))) s (now (paper .entry)) (now (paper .exit)) (now (wire .entry)) (now (wire .exit)) r ⌝ }
+    ensures { λ r. ⌜ RefinesAnswer (suggestCall (viewPrinter s) v) s (lent paper) (lent wire) r ⌝ }
 {
     if codes::no_room(paper.len(), wire.len()) {
         return refused(s, Code::NoRoom);
@@ -195,7 +195,7 @@ pub fn suggest(s: Printer, v: u8, paper: &mut [u8], wire: &mut [u8]) -> Answer
 
 // Who handles carriage returns, and how.
 pub fn report(s: Printer) -> Handling
-    ensures { λ r. ⌜ r ≡ returnsReport (viewPrinter s) ⌝ }
+    ensures { λ r. ⌜ reportOf r ≡ returnsReport (viewPrinter s) ⌝ }
 {
     let sides = s.sides;
     let values = s.values;

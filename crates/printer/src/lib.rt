@@ -2,10 +2,10 @@
 use codes::Code;
 use codes::Note;
 use disposition::Values;
-use echo::Echo;
-use macros::Texts;
 use negotiation::Sides;
+use rcte::Rcte;
 use reader::Reader;
+use received_macros::Texts;
 
 mod body;
 pub mod calls;
@@ -17,7 +17,7 @@ pub struct Printer {
     pub sides: Sides,
     pub reader: Reader,
     pub table: Texts,
-    pub echo: Echo,
+    pub rcte: Rcte,
     pub values: Values,
 }
 

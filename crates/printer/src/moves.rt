@@ -1,10 +1,10 @@
-// Negotiation: what is heard, and what follows as a side's standing changes.
-ghost use Rattle.lists.specs.Buffers.{RoomFor};
+// Negotiation: what is heard, and what follows as a side's state changes.
+ghost use Rattle.lists.specs.Buffers.{lent, RoomFor};
 ghost use Rattle.negotiation.specs.Carried.{replyBytes};
 ghost use Rattle.negotiation.specs.declared.Side.the-variants.{Rcte, Macro, Returns};
-ghost use Rattle.printer.specs.Network.{rcteMoved, sideMoved, replied, negotiationRead};
+ghost use Rattle.printer.specs.Network.{rcteMoved, sideMoved, movedWithReply, negotiationRead};
 ghost use mathlib.Core.Bool.{true, false};
-ghost use Rattle.printer.specs.Kept.{viewPrinter, sidesMoved, MetStep, MetQuiet, Quiet};
+ghost use Rattle.printer.specs.Refinement.{viewPrinter, sidesMoved, RefinesStep, RefinesState, NoteAlone};
 ghost use Rattle.codes.specs.declared.Note.the-variants.{Clear};
 use crate::Printer;
 use crate::Step;
@@ -12,13 +12,13 @@ use codes::Note;
 use codes::Verb;
 use codes::Whose;
 use negotiation::End;
+use negotiation::OptionState;
 use negotiation::Reply;
 use negotiation::Side;
-use negotiation::Standing;
 
 // A step that writes nothing.
-pub fn quiet(s: Printer, note: Note) -> Step
-    ensures { λ r. ⌜ Quiet note s r ⌝ }
+pub fn note_alone(s: Printer, note: Note) -> Step
+    ensures { λ r. ⌜ NoteAlone note s r ⌝ }
 {
     Step {
         note,
@@ -32,15 +32,15 @@ pub fn quiet(s: Printer, note: Note) -> Step
 fn rcte_ended(s: Printer, paper: &mut [u8], wire: &mut [u8]) -> Step
     requires { ⌜ RoomFor (rcteMoved true false (viewPrinter s) .paper) (now paper) ⌝ }
     requires { ⌜ RoomFor (rcteMoved true false (viewPrinter s) .wire) (now wire) ⌝ }
-    ensures { λ r. ⌜ MetStep (rcteMoved true false (viewPrinter s)) s (now (paper .entry)) (now (paper .exit)) (now (wire .entry)) (now (wire .exit)) r ⌝ }
+    ensures { λ r. ⌜ RefinesStep (rcteMoved true false (viewPrinter s)) s (lent paper) (lent wire) r ⌝ }
 {
     let sides = s.sides;
     let echoed = negotiation::echo_in_force(sides);
-    let control = s.echo;
-    let e = echo::ended(control, echoed, paper, wire);
-    let after = e.echo;
+    let control = s.rcte;
+    let e = rcte::rcte_ended(control, echoed, paper, wire);
+    let after = e.rcte;
     let mut t = s;
-    t.echo = after;
+    t.rcte = after;
     Step {
         note: Note::Clear,
         paper: e.paper,
@@ -50,10 +50,10 @@ fn rcte_ended(s: Printer, paper: &mut [u8], wire: &mut [u8]) -> Step
 }
 
 // RCTE ends as it leaves YES, and starts anew as it reaches YES.
-fn rcte_moved(s: Printer, q: Standing, paper: &mut [u8], wire: &mut [u8]) -> Step
+fn rcte_moved(s: Printer, q: OptionState, paper: &mut [u8], wire: &mut [u8]) -> Step
     requires { ⌜ RoomFor (sideMoved (viewPrinter s) Rcte q .paper) (now paper) ⌝ }
     requires { ⌜ RoomFor (sideMoved (viewPrinter s) Rcte q .wire) (now wire) ⌝ }
-    ensures { λ r. ⌜ MetStep (sideMoved (viewPrinter s) Rcte q) s (now (paper .entry)) (now (paper .exit)) (now (wire .entry)) (now (wire .exit)) r ⌝ }
+    ensures { λ r. ⌜ RefinesStep (sideMoved (viewPrinter s) Rcte q) s (lent paper) (lent wire) r ⌝ }
 {
     let old = s.sides;
     let was = negotiation::rcte_in_force(old);
@@ -63,37 +63,37 @@ fn rcte_moved(s: Printer, q: Standing, paper: &mut [u8], wire: &mut [u8]) -> Ste
     t.sides = sides;
     if on {
         if was {
-            return quiet(t, Note::Clear);
+            return note_alone(t, Note::Clear);
         }
-        let control = echo::started();
-        t.echo = control;
-        return quiet(t, Note::Clear);
+        let control = rcte::started();
+        t.rcte = control;
+        return note_alone(t, Note::Clear);
     }
     if was {
         return rcte_ended(t, paper, wire);
     }
-    quiet(t, Note::Clear)
+    note_alone(t, Note::Clear)
 }
 
 // The macros are forgotten as BM is no longer in force.
-fn macro_moved(s: Printer, q: Standing) -> Printer
-    ensures { λ r. ⌜ MetQuiet (sideMoved (viewPrinter s) Macro q) s r ⌝ }
+fn macro_moved(s: Printer, q: OptionState) -> Printer
+    ensures { λ r. ⌜ RefinesState (sideMoved (viewPrinter s) Macro q) s r ⌝ }
 {
     let old = s.sides;
     let sides = negotiation::moved(old, Side::Macro, q);
     let mut t = s;
     t.sides = sides;
-    if negotiation::still_on(q) {
+    if negotiation::is_yes_or_ending(q) {
         return t;
     }
-    let table = macros::empty();
+    let table = received_macros::empty();
     t.table = table;
     t
 }
 
 // Both values are forgotten as NAOCRD is no longer in force.
-fn returns_moved(s: Printer, q: Standing) -> Printer
-    ensures { λ r. ⌜ MetQuiet (sideMoved (viewPrinter s) Returns q) s r ⌝ }
+fn returns_moved(s: Printer, q: OptionState) -> Printer
+    ensures { λ r. ⌜ RefinesState (sideMoved (viewPrinter s) Returns q) s r ⌝ }
 {
     let old = s.sides;
     let sides = negotiation::moved(old, Side::Returns, q);
@@ -107,54 +107,54 @@ fn returns_moved(s: Printer, q: Standing) -> Printer
     t
 }
 
-// A side's standing changes, with what follows from it; the reply is written before this.
-fn side_moved(s: Printer, side: Side, q: Standing, paper: &mut [u8], wire: &mut [u8]) -> Step
+// A side's state changes, with what follows from it; the reply is written before this.
+fn side_moved(s: Printer, side: Side, q: OptionState, paper: &mut [u8], wire: &mut [u8]) -> Step
     requires { ⌜ RoomFor (sideMoved (viewPrinter s) side q .paper) (now paper) ⌝ }
     requires { ⌜ RoomFor (sideMoved (viewPrinter s) side q .wire) (now wire) ⌝ }
-    ensures { λ r. ⌜ MetStep (sideMoved (viewPrinter s) side q) s (now (paper .entry)) (now (paper .exit)) (now (wire .entry)) (now (wire .exit)) r ⌝ }
+    ensures { λ r. ⌜ RefinesStep (sideMoved (viewPrinter s) side q) s (lent paper) (lent wire) r ⌝ }
 {
     match side {
         Side::Rcte => rcte_moved(s, q, paper, wire),
         Side::Macro => {
             let t = macro_moved(s, q);
-            quiet(t, Note::Clear)
+            note_alone(t, Note::Clear)
         }
         Side::Returns => {
             let t = returns_moved(s, q);
-            quiet(t, Note::Clear)
+            note_alone(t, Note::Clear)
         }
-        Side::Uncarried => quiet(s, Note::Clear),
+        Side::Uncarried => note_alone(s, Note::Clear),
         Side::Echo => plainly_moved(s, Side::Echo, q),
         Side::BulletinSga => plainly_moved(s, Side::BulletinSga, q),
         Side::PrinterSga => plainly_moved(s, Side::PrinterSga, q),
     }
 }
 
-// Nothing but the standing changes.
-fn plainly_moved(s: Printer, side: Side, q: Standing) -> Step
-    ensures { λ r. ⌜ Quiet Clear (sidesMoved s side q) r ⌝ }
+// Nothing but the side's state changes.
+fn plainly_moved(s: Printer, side: Side, q: OptionState) -> Step
+    ensures { λ r. ⌜ NoteAlone Clear (sidesMoved s side q) r ⌝ }
 {
     let old = s.sides;
     let sides = negotiation::moved(old, side, q);
     let mut t = s;
     t.sides = sides;
-    quiet(t, Note::Clear)
+    note_alone(t, Note::Clear)
 }
 
 // The reply or the request goes first, then what follows from the change.
-pub fn replied(
+pub fn moved_with_reply(
     s: Printer,
     side: Side,
-    q: Standing,
+    q: OptionState,
     whose: Whose,
     reply: Reply,
     option: u8,
     paper: &mut [u8],
     wire: &mut [u8],
 ) -> Step
-    requires { ⌜ RoomFor (replied (viewPrinter s) side q (replyBytes whose reply option) .paper) (now paper) ⌝ }
-    requires { ⌜ RoomFor (replied (viewPrinter s) side q (replyBytes whose reply option) .wire) (now wire) ⌝ }
-    ensures { λ r. ⌜ MetStep (replied (viewPrinter s) side q (replyBytes whose reply option)) s (now (paper .entry)) (now (paper .exit)) (now (wire .entry)) (now (wire .exit)) r ⌝ }
+    requires { ⌜ RoomFor (movedWithReply (viewPrinter s) side q (replyBytes whose reply option) .paper) (now paper) ⌝ }
+    requires { ⌜ RoomFor (movedWithReply (viewPrinter s) side q (replyBytes whose reply option) .wire) (now wire) ⌝ }
+    ensures { λ r. ⌜ RefinesStep (movedWithReply (viewPrinter s) side q (replyBytes whose reply option)) s (lent paper) (lent wire) r ⌝ }
 {
     let n = negotiation::put_reply(whose, reply, option, wire);
     let step = side_moved(s, side, q, paper, &mut wire[n..]);
@@ -173,7 +173,7 @@ pub fn replied(
 pub fn negotiated(s: Printer, v: Verb, option: u8, paper: &mut [u8], wire: &mut [u8]) -> Step
     requires { ⌜ RoomFor (negotiationRead (viewPrinter s) v option .paper) (now paper) ⌝ }
     requires { ⌜ RoomFor (negotiationRead (viewPrinter s) v option .wire) (now wire) ⌝ }
-    ensures { λ r. ⌜ MetStep (negotiationRead (viewPrinter s) v option) s (now (paper .entry)) (now (paper .exit)) (now (wire .entry)) (now (wire .exit)) r ⌝ }
+    ensures { λ r. ⌜ RefinesStep (negotiationRead (viewPrinter s) v option) s (lent paper) (lent wire) r ⌝ }
 {
     let sides = s.sides;
     let turn = negotiation::heard_by(End::Printer, sides, v, option);
@@ -181,5 +181,5 @@ pub fn negotiated(s: Printer, v: Verb, option: u8, paper: &mut [u8], wire: &mut 
     let q = turn.next;
     let whose = turn.whose;
     let reply = turn.reply;
-    replied(s, side, q, whose, reply, option, paper, wire)
+    moved_with_reply(s, side, q, whose, reply, option, paper, wire)
 }

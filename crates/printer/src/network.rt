@@ -1,20 +1,20 @@
 // A network byte: read as it stands, or replaced by a macro's text.
 ghost use mathlib.Core.Path.{_≡_};
 ghost use Prim.Native.Nat.{_≤_};
-ghost use Rattle.lists.specs.Buffers.{RoomFor};
+ghost use Rattle.lists.specs.Buffers.{lent, RoomFor};
 ghost use Rattle.printer.specs.Network.{dataRead, itemRead, byteRead, bytesRead, entryRead, networkRead};
-ghost use Rattle.macros.specs.Texts.{entryOf};
-ghost use Rattle.printer.specs.Kept.{viewPrinter, MetStep, MetPaper, textIn, isOrdinary};
+ghost use Rattle.received_macros.specs.Texts.{entryOf};
+ghost use Rattle.printer.specs.Refinement.{viewPrinter, RefinesStep, RefinesStepOnPaper, textIn, isOrdinary};
 use crate::Printer;
 use crate::Step;
 use crate::body;
 use crate::moves;
 use codes::Note;
-use macros::Text;
 use negotiation::End;
 use negotiation::Sides;
 use reader::Item;
 use reader::Phase;
+use received_macros::Text;
 
 // Data that is printed and changes nothing: the state is then handed on without a copy of any part.
 pub fn is_ordinary(sides: Sides, phase: Phase, b: u8) -> bool
@@ -32,15 +32,15 @@ pub fn is_ordinary(sides: Sides, phase: Phase, b: u8) -> bool
 // Data is printed as it is; under RCTE it then holds.
 pub fn data_read(s: Printer, b: u8, paper: &mut [u8]) -> Step
     requires { ⌜ RoomFor (dataRead (viewPrinter s) b .paper) (now paper) ⌝ }
-    ensures { λ r. ⌜ MetPaper (dataRead (viewPrinter s) b) s (now (paper .entry)) (now (paper .exit)) r ⌝ }
+    ensures { λ r. ⌜ RefinesStepOnPaper (dataRead (viewPrinter s) b) s (lent paper) r ⌝ }
 {
     paper[0] = b;
     let sides = s.sides;
     if negotiation::rcte_in_force(sides) {
-        let control = s.echo;
-        let held = echo::holding(control);
+        let control = s.rcte;
+        let held = rcte::holding(control);
         let mut t = s;
-        t.echo = held;
+        t.rcte = held;
         return Step {
             note: Note::Clear,
             paper: 1,
@@ -60,14 +60,14 @@ pub fn data_read(s: Printer, b: u8, paper: &mut [u8]) -> Step
 fn item_read(s: Printer, item: Item, paper: &mut [u8], wire: &mut [u8]) -> Step
     requires { ⌜ RoomFor (itemRead (viewPrinter s) item .paper) (now paper) ⌝ }
     requires { ⌜ RoomFor (itemRead (viewPrinter s) item .wire) (now wire) ⌝ }
-    ensures { λ r. ⌜ MetStep (itemRead (viewPrinter s) item) s (now (paper .entry)) (now (paper .exit)) (now (wire .entry)) (now (wire .exit)) r ⌝ }
+    ensures { λ r. ⌜ RefinesStep (itemRead (viewPrinter s) item) s (lent paper) (lent wire) r ⌝ }
 {
     match item {
-        Item::Nothing => moves::quiet(s, Note::Clear),
+        Item::Nothing => moves::note_alone(s, Note::Clear),
         Item::Data(b) => data_read(s, b, paper),
         Item::Negotiated(v, option) => moves::negotiated(s, v, option, paper, wire),
         Item::BodyEnd => body::body_read(s, paper, wire),
-        Item::StrayCommand => moves::quiet(s, Note::Stray),
+        Item::StrayCommand => moves::note_alone(s, Note::Stray),
     }
 }
 
@@ -75,7 +75,7 @@ fn item_read(s: Printer, item: Item, paper: &mut [u8], wire: &mut [u8]) -> Step
 pub fn byte_read(s: Printer, b: u8, paper: &mut [u8], wire: &mut [u8]) -> Step
     requires { ⌜ RoomFor (byteRead (viewPrinter s) b .paper) (now paper) ⌝ }
     requires { ⌜ RoomFor (byteRead (viewPrinter s) b .wire) (now wire) ⌝ }
-    ensures { λ r. ⌜ MetStep (byteRead (viewPrinter s) b) s (now (paper .entry)) (now (paper .exit)) (now (wire .entry)) (now (wire .exit)) r ⌝ }
+    ensures { λ r. ⌜ RefinesStep (byteRead (viewPrinter s) b) s (lent paper) (lent wire) r ⌝ }
 {
     let old = s.reader;
     let phase = old.phase;
@@ -95,7 +95,7 @@ fn text_read(s: Printer, text: Text, paper: &mut [u8], wire: &mut [u8]) -> Step
     requires { ⌜ text .len ≤ 255 ⌝ }
     requires { ⌜ RoomFor (bytesRead (viewPrinter s) (textIn text) .paper) (now paper) ⌝ }
     requires { ⌜ RoomFor (bytesRead (viewPrinter s) (textIn text) .wire) (now wire) ⌝ }
-    ensures { λ r. ⌜ MetStep (bytesRead (viewPrinter s) (textIn text)) s (now (paper .entry)) (now (paper .exit)) (now (wire .entry)) (now (wire .exit)) r ⌝ }
+    ensures { λ r. ⌜ RefinesStep (bytesRead (viewPrinter s) (textIn text)) s (lent paper) (lent wire) r ⌝ }
 {
     let bytes = text.bytes;
     let count = text.len;
@@ -126,11 +126,11 @@ fn text_read(s: Printer, text: Text, paper: &mut [u8], wire: &mut [u8]) -> Step
 fn defined_read(s: Printer, b: u8, paper: &mut [u8], wire: &mut [u8]) -> Step
     requires { ⌜ RoomFor (entryRead (viewPrinter s) b (entryOf (viewPrinter s .table) b) .paper) (now paper) ⌝ }
     requires { ⌜ RoomFor (entryRead (viewPrinter s) b (entryOf (viewPrinter s .table) b) .wire) (now wire) ⌝ }
-    ensures { λ r. ⌜ MetStep (entryRead (viewPrinter s) b (entryOf (viewPrinter s .table) b)) s (now (paper .entry)) (now (paper .exit)) (now (wire .entry)) (now (wire .exit)) r ⌝ }
+    ensures { λ r. ⌜ RefinesStep (entryRead (viewPrinter s) b (entryOf (viewPrinter s .table) b)) s (lent paper) (lent wire) r ⌝ }
 {
     let table = s.table;
-    if macros::is_defined(table, b) {
-        let text = macros::text_of(table, b);
+    if received_macros::is_defined(table, b) {
+        let text = received_macros::text_of(table, b);
         return text_read(s, text, paper, wire);
     }
     byte_read(s, b, paper, wire)
@@ -140,13 +140,13 @@ fn defined_read(s: Printer, b: u8, paper: &mut [u8], wire: &mut [u8]) -> Step
 pub fn network_read(s: Printer, b: u8, paper: &mut [u8], wire: &mut [u8]) -> Step
     requires { ⌜ RoomFor (networkRead (viewPrinter s) b .paper) (now paper) ⌝ }
     requires { ⌜ RoomFor (networkRead (viewPrinter s) b .wire) (now wire) ⌝ }
-    ensures { λ r. ⌜ MetStep (networkRead (viewPrinter s) b) s (now (paper .entry)) (now (paper .exit)) (now (wire .entry)) (now (wire .exit)) r ⌝ }
+    ensures { λ r. ⌜ RefinesStep (networkRead (viewPrinter s) b) s (lent paper) (lent wire) r ⌝ }
 {
     let sides = s.sides;
     if !negotiation::macros_in_force(End::Printer, sides) {
         return byte_read(s, b, paper, wire);
     }
-    if macros::is_unmarked(&s.table.marks, b) {
+    if received_macros::is_unmarked(&s.table.marks, b) {
         return byte_read(s, b, paper, wire);
     }
     let reading = s.reader;

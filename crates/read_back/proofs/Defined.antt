@@ -7,8 +7,8 @@ use lib.ListN.{set}
 use lib.Dec.{lit<, lit≤}
 use Rattle.lists.proofs.Uniform.{getD-uniform}
 use Rattle.reader.specs.declared.Phase.the-variants.{Between}
-use Rattle.macros.specs.Texts.{plain, text, noMacros}
-use Rattle.definitions.specs.Sending.{accepted, noDefinitions, stored}
+use Rattle.received_macros.specs.Texts.{plain, text, noMacros}
+use Rattle.sent_macros.specs.Sending.{accepted, noDefinitions, stored}
 use Rattle.printer.specs.State as P
 use Rattle.bulletin.specs.State as B
 use Rattle.read_back.specs.Ends.{printerPaper, printerWire, printerAfter, reached, NetworkCalls, none, byte}
@@ -18,7 +18,7 @@ use Rattle.read_back.proofs.Sessions.{iac-stays-free}
 use Rattle.read_back.proofs.Tables.{same-text, no-text, free-alone}
 use Rattle.read_back.proofs.ReadBack.{all-read-back, demanded-agree}
 
-abbrev after : P.Printer
+abbrev after : P.PrinterState
 after = printerAfter P.fresh D.read
 
 wire-is : printerWire D.read ≡ D.agrees ++ D.accepts
@@ -29,11 +29,11 @@ paper-is : printerPaper D.read ≡ []
 unfolding bothRules
 paper-is = refl
 
-here-on : B.macrosOn (reached D.calls) ≡ true
+here-on : B.bmInForce (reached D.calls) ≡ true
 unfolding bothRules
 here-on = refl
 
-there-on : P.macrosOn after ≡ true
+there-on : P.bmInForce after ≡ true
 unfolding bothRules
 there-on = refl
 
@@ -83,14 +83,14 @@ defined-read-back = record {
       D.sendings (D.toPrinter D.sentWire) (with-least D.sentWire);
 }
 
-abbrev asked : P.Printer
+abbrev asked : P.PrinterState
 asked = printerAfter P.fresh (D.firstReads (D.wireOf D.asks))
 
-not-yet : B.macrosOn (reached D.asks) ≡ false
+not-yet : B.bmInForce (reached D.asks) ≡ false
 unfolding bothRules
 not-yet = refl
 
-asked-on : P.macrosOn asked ≡ true
+asked-on : P.bmInForce asked ≡ true
 unfolding bothRules
 asked-on = refl
 

@@ -7,8 +7,8 @@ use native.Mathlib.Omega.{arith}
 use lib.ListN.{set}
 use lib.Dec.{lit<}
 use Rattle.reader.specs.declared.Phase.the-variants.{Between}
-use Rattle.macros.specs.Texts.{text, noMacros}
-use Rattle.definitions.specs.Sending.{free, accepted, refused, noDefinitions}
+use Rattle.received_macros.specs.Texts.{text, noMacros}
+use Rattle.sent_macros.specs.Sending.{free, accepted, refused, noDefinitions}
 use Rattle.printer.specs.State as P
 use Rattle.bulletin.specs.State as B
 use Rattle.read_back.specs.ReadBack.{Demanded}
@@ -18,11 +18,11 @@ use Rattle.read_back.proofs.Sessions.{iac-stays-free}
 use Rattle.read_back.proofs.Tables.{same-text, no-text}
 use Rattle.read_back.proofs.ReadBack.{all-read-back, demanded-agree}
 
-here-on : B.macrosOn b ≡ true
+here-on : B.bmInForce b ≡ true
 unfolding bothRules
 here-on = refl
 
-there-on : P.macrosOn p ≡ true
+there-on : P.bmInForce p ≡ true
 unfolding bothRules
 there-on = refl
 

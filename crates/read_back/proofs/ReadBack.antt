@@ -3,8 +3,8 @@ use mathlib.Core.Path.{refl, sym, _∙_}
 use mathlib.Core.List.{List}
 use Prim.Native.Nat.{ℕ}
 use Rattle.lists.proofs.Uniform.{getD-uniform}
-use Rattle.macros.specs.Texts.{plain}
-use Rattle.definitions.specs.Sending.{free}
+use Rattle.received_macros.specs.Texts.{plain}
+use Rattle.sent_macros.specs.Sending.{free}
 use Rattle.printer.specs.State as P
 use Rattle.bulletin.specs.State as B
 use Rattle.read_back.specs.Ends.{reached}
@@ -20,7 +20,7 @@ use Rattle.read_back.proofs.Sent.{allowed-done, does-sends, sent-read, 
 
 pub each-read-back : EachReadBack
 each-read-back b p iac a c h calls n =
-    let r : Reads (dataOf b c) p (steps reads p (answer b c .did .wire)) = rw h at (sent-read b iac p a c) in (
+    let r : Reads (dataOf b c) p (steps reads p (answer b c .effect .wire)) = rw h at (sent-read b iac p a c) in (
       rw (allowed-done b c h) (does-sends b c),
       record {
         read = by-calls n p r;
@@ -36,7 +36,7 @@ all-read-back b p iac a cs calls n =
 pub macro-read-back : MacroReadBack
 macro-read-back b p a m x t h calls n = by-calls n p (macro-read p x t (a .macros m) (a .between) (a .same m x t h))
 
-demanded-after : {b c : B.Bulletin} {x : List ℕ} {p q : P.Printer} → SameTable b c → OnlyHolds x p q → Demanded b p → Demanded c q
+demanded-after : {b c : B.BulletinState} {x : List ℕ} {p q : P.PrinterState} → SameTable b c → OnlyHolds x p q → Demanded b p → Demanded c q
 demanded-after s h a = record {
   macros = rw (s .sides, h .sides) (a .macros);
   betweenCommands = h .between;

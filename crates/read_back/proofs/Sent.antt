@@ -1,11 +1,10 @@
 -- Text items and uses of macros: what the bulletin end answers to them, and that their bytes are read as their data.
 use mathlib.Core.Path.{_≡_, refl, sym, _∙_}
 use mathlib.Core.Bool.{Bool, true, false, not, _&&_, false≢true}
-use mathlib.Core.List.{List, [], _∷_}
+use mathlib.Core.List.{List, [], _∷_, flatMap}
 use Prim.Native.Nat.{ℕ}
 use lib.Dec.{ltb, leb}
 use borrow.Author.Tests.{leb-true, ltb-false, le-ltb, le-leb, not-true, not-false}
-use Rattle.lists.specs.Lists.{joined}
 use Rattle.lists.proofs.Lengths.{chosen}
 use Rattle.lists.proofs.Tables.{both-left, both-right}
 use Rattle.codes.specs.Answers.{Guard, guarded, wireRoom}
@@ -13,7 +12,7 @@ use Rattle.codes.specs.Telnet.{plainCommand}
 use Rattle.keys.specs.declared.Key.{Key}
 use Rattle.keys.specs.declared.Key.the-variants.{Char, Line, Command}
 use Rattle.keys.specs.Keys.{badCommand}
-use Rattle.definitions.specs.Sending.{Sent, free, pending, pendingFree, accepted, refused, sentOf, isAccepted, acceptedText}
+use Rattle.sent_macros.specs.Sending.{Sent, free, pending, pendingFree, accepted, refused, sentOf, isAccepted, acceptedText}
 use Rattle.disposition.specs.Returns.{itemData}
 use Rattle.printer.specs.State as P
 use Rattle.bulletin.specs.State as B
@@ -29,7 +28,7 @@ use Rattle.read_back.proofs.Agreement.{SameTable, agreed-after, iac-sta
 use Rattle.read_back.proofs.Sessions.{called-free}
 
 -- what an allowed one does
-abbrev does : B.Bulletin → Sending → B.Did
+abbrev does : B.BulletinState → Sending → B.Effect
 does b (item k w) = itemSent b k
 does b (macroUse x w) = B.sends (x ∷ []) b
 
@@ -51,18 +50,18 @@ accepted-is (accepted t) h = refl
 accepted-is refused h = absurd (false≢true h)
 
 -- what an item that is allowed meets, and that this is enough
-record ItemAllowed (b : B.Bulletin) (k : Key) (w : ℕ) : Type 0 where
+record ItemAllowed (b : B.BulletinState) (k : Key) (w : ℕ) : Type 0 where
   room : ltb w wireRoom ≡ false
   good : badCommand k ≡ false
   ready : b .awaiting ≡ false
 
-record UseAllowed (b : B.Bulletin) (x w : ℕ) : Type 0 where
+record UseAllowed (b : B.BulletinState) (x w : ℕ) : Type 0 where
   room : ltb w wireRoom ≡ false
-  on : B.macrosOn b ≡ true
+  on : B.bmInForce b ≡ true
   ready : b .awaiting ≡ false
   given : isAccepted (sentOf (b .table) x) ≡ true
 
-module _ (b : B.Bulletin) where
+module _ (b : B.BulletinState) where
   item-allowed : (k : Key) (w : ℕ) → Allowed b (item k w) → ItemAllowed b k w
   item-allowed k w h =
       let front = leb wireRoom w && isItem k in
@@ -76,12 +75,12 @@ module _ (b : B.Bulletin) where
   use-allowed : (x w : ℕ) → Allowed b (macroUse x w) → UseAllowed b x w
   use-allowed x w h =
       let has = isAccepted (sentOf (b .table) x) in
-      let two = leb wireRoom w && B.macrosOn b in
+      let two = leb wireRoom w && B.bmInForce b in
       let three = both-left (two && not (b .awaiting)) has h in
       let front = both-left two (not (b .awaiting)) three in
       record {
-        room = le-ltb w wireRoom (leb-true wireRoom w (both-left (leb wireRoom w) (B.macrosOn b) front));
-        on = both-right (leb wireRoom w) (B.macrosOn b) front;
+        room = le-ltb w wireRoom (leb-true wireRoom w (both-left (leb wireRoom w) (B.bmInForce b) front));
+        on = both-right (leb wireRoom w) (B.bmInForce b) front;
         ready = not-true (b .awaiting) (both-right two (not (b .awaiting)) three);
         given = both-right (two && not (b .awaiting)) has h;
       }
@@ -101,28 +100,28 @@ module _ (b : B.Bulletin) where
   allowed-done (macroUse x w) h = use-done x w (use-allowed x w h)
 
   -- and only an allowed one is not refused: a refusal sends nothing and leaves the state
-  stopped-did : (gs : List Guard) (d : B.Did) (given : B.Answer) (allowed : Bool) → Judged gs (B.refused b) (B.done d) given
-      → (NoneHolds gs → allowed ≡ true) → allowed ≡ false → given .did ≡ B.nothing b
-  stopped-did gs d given allowed (stopped c n e) f off = rw e
-  stopped-did gs d given allowed (passed h e) f off = absurd (false≢true (sym off ∙ f h))
+  stopped-effect : (gs : List Guard) (d : B.Effect) (given : B.CallEffect) (allowed : Bool) → Judged gs (B.refused b) (B.done d) given
+      → (NoneHolds gs → allowed ≡ true) → allowed ≡ false → given .effect ≡ B.nothing b
+  stopped-effect gs d given allowed (stopped c n e) f off = rw e
+  stopped-effect gs d given allowed (passed h e) f off = absurd (false≢true (sym off ∙ f h))
 
-  pub refused-did : (c : Sending) → isAllowed b c ≡ false → answer b c .did ≡ B.nothing b
+  pub refused-effect : (c : Sending) → isAllowed b c ≡ false → answer b c .effect ≡ B.nothing b
   unfolding BS.called textCall useCall
-  refused-did (item k w) off =
-      stopped-did _ (itemSent b k) (textCall b k w) (isAllowed b (item k w))
+  refused-effect (item k w) off =
+      stopped-effect _ (itemSent b k) (textCall b k w) (isAllowed b (item k w))
       (judged _ (B.refused b) (B.done (itemSent b k)) (refl, (refl, (refl, tt))))
       (λ h. rw (le-leb wireRoom w (ltb-false w wireRoom (h .0)), not-bad k (h .1 .0), h .1 .1 .0)) off
-  refused-did (macroUse x w) off =
-      stopped-did _ (B.sends (x ∷ []) b) (useCall b x w) (isAllowed b (macroUse x w))
+  refused-effect (macroUse x w) off =
+      stopped-effect _ (B.sends (x ∷ []) b) (useCall b x w) (isAllowed b (macroUse x w))
       (judged _ (B.refused b) (B.done (B.sends (x ∷ []) b)) (refl, (refl, (refl, (refl, tt)))))
       (λ h. rw (
         le-leb wireRoom w (ltb-false w wireRoom (h .0)),
-        not-false (B.macrosOn b) (h .1 .0),
+        not-false (B.bmInForce b) (h .1 .0),
         h .1 .1 .0,
         not-false (isAccepted (sentOf (b .table) x)) (h .1 .1 .1 .0),
       )) off
 
-  module _ (iac : IacFree b) (p : P.Printer) (a : Agreed b p) where
+  module _ (iac : IacFree b) (p : P.PrinterState) (a : Agreed b p) where
     item-read : (k : Key) → badCommand k ≡ false → Reads (textData b k) p (steps reads p (itemSent b k .wire))
     unfolding textData itemSent itemData
     item-read (Char c) h = text-read b iac p a (itemData (B.handlingNow b) (Char c))
@@ -140,46 +139,46 @@ module _ (b : B.Bulletin) where
     does-read (macroUse x w) h = use-read x w (use-allowed x w h)
 
     -- one of them, allowed or not
-    pub sent-read : (c : Sending) → Reads (sentData b c) p (steps reads p (answer b c .did .wire))
+    pub sent-read : (c : Sending) → Reads (sentData b c) p (steps reads p (answer b c .effect .wire))
     unfolding steps
     sent-read c =
-        chosen (λ bytes. Reads bytes p (steps reads p (answer b c .did .wire))) (isAllowed b c)
+        chosen (λ bytes. Reads bytes p (steps reads p (answer b c .effect .wire))) (isAllowed b c)
         (λ h. rw (allowed-done c h) (does-read c h))
-        (λ h. rw (refused-did c h) (none-read p (p .reader) (a .between) (λ i. i)))
+        (λ h. rw (refused-effect c h) (none-read p (p .reader) (a .between) (λ i. i)))
 
-pub does-sends : (b : B.Bulletin) (c : Sending) → OnlySends (B.done (does b c))
+pub does-sends : (b : B.BulletinState) (c : Sending) → OnlySends (B.done (does b c))
 unfolding itemSent
 does-sends b (item k w) = record { code = refl; note = refl; host = refl }
 does-sends b (macroUse x w) = record { code = refl; note = refl; host = refl }
 
 -- an item may start a wait; sides and table stay
-does-same : (b : B.Bulletin) (c : Sending) → SameTable b (does b c .state)
+does-same : (b : B.BulletinState) (c : Sending) → SameTable b (does b c .state)
 unfolding itemSent
 does-same b (item k w) = record { sides = refl; table = refl }
 does-same b (macroUse x w) = record { sides = refl; table = refl }
 
-pub sent-same : (b : B.Bulletin) (c : Sending) → SameTable b (answer b c .did .state)
+pub sent-same : (b : B.BulletinState) (c : Sending) → SameTable b (answer b c .effect .state)
 sent-same b c = go (isAllowed b c) refl
   where
-    go : (t : Bool) → isAllowed b c ≡ t → SameTable b (answer b c .did .state)
+    go : (t : Bool) → isAllowed b c ≡ t → SameTable b (answer b c .effect .state)
     go true h = rw (allowed-done b c h) (does-same b c)
-    go false h = rw (refused-did b c h) (record { sides = refl; table = refl })
+    go false h = rw (refused-effect b c h) (record { sides = refl; table = refl })
 
-pub all-same : (b : B.Bulletin) (cs : List Sending) → SameTable b (bulletinAfter b (answers b cs))
+pub all-same : (b : B.BulletinState) (cs : List Sending) → SameTable b (bulletinAfter b (answers b cs))
 unfolding BS.answersFrom bulletinAfter
 all-same b [] = record { sides = refl; table = refl }
 all-same b (c ∷ cs) =
     let s = sent-same b c in
-    let t = all-same (answer b c .did .state) cs in
+    let t = all-same (answer b c .effect .state) cs in
     record { sides = t .sides ∙ s .sides; table = t .table ∙ s .table }
 
 -- a list of them
-pub all-sent : (b : B.Bulletin) → IacFree b → (p : P.Printer) → Agreed b p → (cs : List Sending)
+pub all-sent : (b : B.BulletinState) → IacFree b → (p : P.PrinterState) → Agreed b p → (cs : List Sending)
     → Reads (allData b cs) p (steps reads p (allWire b cs))
-unfolding BS.answersFrom joined allData steps
+unfolding BS.answersFrom flatMap allData steps
 all-sent b iac p a [] = none-read p (p .reader) (a .between) (λ i. i)
 all-sent b iac p a (c ∷ cs) =
-    let d = answer b c .did in
+    let d = answer b c .effect in
     let r = sent-read b iac p a c in
     let q = steps reads p (d .wire) .state in
     rw (steps-append reads (d .wire) (allWire (d .state) cs) p)

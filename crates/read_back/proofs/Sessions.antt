@@ -9,15 +9,15 @@ use lib.Dec.{eqb, lit<}
 use borrow.Author.Tests.{eqb-true, eqb-false}
 use Rattle.lists.proofs.Lengths.{either, chosen}
 use Rattle.codes.specs.Telnet.{IAC}
-use Rattle.negotiation.specs.declared.Standing.{Standing}
+use Rattle.negotiation.specs.declared.OptionState.{OptionState}
 use Rattle.negotiation.specs.declared.Side.{Side}
 use Rattle.negotiation.specs.declared.Side.the-variants.{Echo, BulletinSga, Rcte, Macro, PrinterSga, Returns, Uncarried}
 use Rattle.negotiation.specs.Table.{isYes}
 use Rattle.bodies.specs.declared.MacroReply.{MacroReply}
 use Rattle.bodies.specs.declared.MacroReply.the-variants.{Accept, Refuse, PleaseCancel}
-use Rattle.definitions.specs.Sending.{Definitions, Sent, free, noDefinitions, sentOf, isAccepted, onAccept, onRefuse, defining, sentFor}
-use Rattle.bulletin.specs.State.{Bulletin, fresh, withTable, Did, Answer}
-use Rattle.bulletin.specs.Network.{sideMoved, replied}
+use Rattle.sent_macros.specs.Sending.{Definitions, Sent, free, noDefinitions, sentOf, isAccepted, onAccept, onRefuse, defining, sentFor}
+use Rattle.bulletin.specs.State.{BulletinState, fresh, withTable, Effect, CallEffect}
+use Rattle.bulletin.specs.Network.{sideMoved, macroReplied}
 use Rattle.bulletin.specs.Calls.{defineGuards}
 use Rattle.bulletin.specs.Session.{Call, called, answersFrom}
 use Rattle.read_back.specs.Ends.{bulletinAfter}
@@ -41,7 +41,7 @@ set-free t x v h k = go (eqb x IAC) refl
         rw (k q ∙ sym h, q, set-getD t IAC free) h
     go false e = getD-set-other t x IAC v free (λ (q : IAC ≡ x). eqb-false x IAC e (sym q)) ∙ h
 
-side-free : (s : Bulletin) (side : Side) (q : Standing) (reply : List ℕ) → IacFree s → IacFree (sideMoved s side q reply .state)
+side-free : (s : BulletinState) (side : Side) (q : OptionState) (reply : List ℕ) → IacFree s → IacFree (sideMoved s side q reply .state)
 unfolding sideMoved
 side-free s Macro q reply h = either FreeIn (isYes q) h none-free
 side-free s Returns q reply h = h
@@ -52,7 +52,7 @@ side-free s PrinterSga q reply h = h
 side-free s Uncarried q reply h = h
 
 -- 255 is free, so that no answer about it changes its entry
-replies-free : (s : Bulletin) (r : MacroReply) → IacFree s → IacFree (replied s r .state)
+replies-free : (s : BulletinState) (r : MacroReply) → IacFree s → IacFree (macroReplied s r .state)
 unfolding defining
 replies-free s (Accept x) h = set-free (s .table) x (onAccept (sentOf (s .table) x)) h (λ (e : x ≡ IAC). rw (e, h))
 replies-free s (Refuse x) h = set-free (s .table) x (onRefuse (sentOf (s .table) x)) h (λ (e : x ≡ IAC). rw (e, h))
@@ -62,7 +62,7 @@ replies-free s (PleaseCancel x) h =
     (λ k. h)
 
 -- a DEFINE of 255 is refused
-defines-free : (s : Bulletin) (x : ℕ) (t : List ℕ) (w : ℕ) → NoneHolds (defineGuards s x t w) → IacFree s
+defines-free : (s : BulletinState) (x : ℕ) (t : List ℕ) (w : ℕ) → NoneHolds (defineGuards s x t w) → IacFree s
     → IacFree (withTable s (defining (s .table) x t))
 unfolding defining
 defines-free s x t w n h = set-free (s .table) x (sentFor x t) h (λ (e : x ≡ IAC). absurd (eqb-false x IAC (n .1 .1 .0) e))
@@ -70,21 +70,20 @@ defines-free s x t w n h = set-free (s .table) x (sentFor x t) h (λ (e : x ≡ 
 free-steps : Steps IacFree
 free-steps = record {
   others = λ e f h. subst FreeIn f h;
-  hears = λ s side enable reply h. side-free s side _ reply h;
-  asks = λ s side enable q r reply c e h. side-free s side q reply h;
+  moves = λ s side q reply reached h. side-free s side q reply h;
   replies = replies-free;
   defines = defines-free;
 }
 
-pub called-free : (s : Bulletin) (c : Call) → IacFree s → IacFree (called s c .did .state)
+pub called-free : (s : BulletinState) (c : Call) → IacFree s → IacFree (called s c .effect .state)
 called-free s c h = call-kept IacFree free-steps s c h
 
 -- what the first state has and every answer leaves, the last state has
-after-kept : (P : Bulletin → Type 0) (s : Bulletin) (given : List Answer) → P s → ((a : Answer) → List·Memᴰ a given → P (a .did .state))
+after-kept : (P : BulletinState → Type 0) (s : BulletinState) (given : List CallEffect) → P s → ((a : CallEffect) → List·Memᴰ a given → P (a .effect .state))
     → P (bulletinAfter s given)
 unfolding bulletinAfter
 after-kept P s [] h k = h
-after-kept P s (a ∷ given) h k = after-kept P (a .did .state) given (k a (List·Memᴰ·head refl)) (λ x m. k x (List·Memᴰ·tail m))
+after-kept P s (a ∷ given) h k = after-kept P (a .effect .state) given (k a (List·Memᴰ·head refl)) (λ x m. k x (List·Memᴰ·tail m))
 
 pub iac-stays-free : IacStaysFree
 iac-stays-free session =

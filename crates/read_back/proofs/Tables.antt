@@ -9,8 +9,8 @@ use lib.Seq.{getD-set-same, getD-set-other}
 use lib.Dec.{eqb}
 use borrow.Author.Tests.{eqb-true, eqb-false}
 use Rattle.lists.proofs.Uniform.{getD-uniform}
-use Rattle.macros.specs.Texts.{Entry, plain, text, noMacros, entryOf}
-use Rattle.definitions.specs.Sending.{Sent, free, accepted, noDefinitions, sentOf, stored}
+use Rattle.received_macros.specs.Texts.{Entry, plain, text, noMacros, entryOf}
+use Rattle.sent_macros.specs.Sending.{Sent, free, accepted, noDefinitions, sentOf, stored}
 
 -- a free byte is not accepted
 pub free-alone : (t : List ℕ) → free ≡ accepted t → ⊥

@@ -4,7 +4,7 @@ use mathlib.Core.Bool.{true, false}
 use mathlib.Core.List.{List, [], _∷_, _++_, map}
 use Prim.Native.Nat.{ℕ}
 use Rattle.keys.specs.declared.Key.the-variants.{Char}
-use Rattle.definitions.specs.Sending.{sentOf, accepted}
+use Rattle.sent_macros.specs.Sending.{sentOf, accepted}
 use Rattle.printer.specs.State as P
 use Rattle.printer.specs.Session as PS
 use Rattle.bulletin.specs.State as B
@@ -31,7 +31,7 @@ toPrinter bytes = map (λ x. PS.network x 1024 2048) bytes
 abbrev pub wireOf : List BS.Call → List ℕ
 wireOf session = bulletinWire (bulletinAnswers B.fresh session)
 
-abbrev pub firstReads : List ℕ → List P.Answer
+abbrev pub firstReads : List ℕ → List P.CallEffect
 firstReads bytes = printerAnswers P.fresh (toPrinter bytes)
 
 -- BM is asked for and agreed, and 128 is defined as this text and accepted
@@ -47,13 +47,14 @@ macroText = 72 ∷ 255 ∷ []
 abbrev pub calls : List BS.Call
 calls = defines macroText
 
-abbrev pub read : List P.Answer
+abbrev pub read : List P.CallEffect
 read = firstReads (wireOf calls)
 
--- The printer end sends the replies that the session hears, and prints nothing. Behind it the bulletin end has BM in force and 128
--- accepted, and the ends meet the premise of demand 2.
+-- Assumed: nothing. From fresh ends BM is agreed, and 128 defined and accepted. Promised: the printer end's replies
+-- are those that the session hears, it prints nothing, and the ends meet the premise of demand 2 with BM in force and
+-- 128 accepted. Ruled out: a premise that no ends with a macro meet; a printer end that refuses each DEFINE.
 pub record DefinedAgree : Type 0 where
-  pub inForce : B.macrosOn (reached calls) ≡ true
+  pub inForce : B.bmInForce (reached calls) ≡ true
   pub isAccepted : sentOf (reached calls .table) 128 ≡ accepted macroText
   pub wire : printerWire read ≡ agrees ++ accepts
   pub paper : printerPaper read ≡ []
@@ -66,8 +67,9 @@ sendings = macroUse 128 2048 ∷ item (Char 13) 2048 ∷ item (Char 255) 2048 �
 abbrev pub sentWire : List ℕ
 sentWire = allWire (reached calls) sendings
 
--- The DEFINE has a count of 3 and each 255 doubled twice. The use is one byte, Char(13) is CR NUL, 255 is doubled, 128 goes out as
--- LITERAL. The printer end, reading these bytes, prints the data; and what AllReadBack says of it.
+-- Assumed: nothing; the ends are those of DefinedAgree. Promised: byte by byte, the DEFINE (a count of 3, each 255
+-- doubled twice); a use, Char(13), Char(255) and the macro's byte as a character, as they go out, their data and the
+-- paper; and what AllReadBack says of them. Ruled out: items that have no data; a 255 that is stored once.
 pub record DefinedReadBack : Type 0 where
   pub defining : wireOf calls ≡ 255 ∷ 251 ∷ 19 ∷ 255 ∷ 250 ∷ 19 ∷ 1 ∷ 128 ∷ 3 ∷ 72 ∷ 255 ∷ 255 ∷ 255 ∷ 255 ∷ 255 ∷ 240 ∷ []
   pub wire : sentWire ≡ 128 ∷ 13 ∷ 0 ∷ 255 ∷ 255 ∷ 255 ∷ 250 ∷ 19 ∷ 4 ∷ 128 ∷ 255 ∷ 240 ∷ []
@@ -76,9 +78,10 @@ pub record DefinedReadBack : Type 0 where
   pub back : ReadBack Agreed (allData (reached calls) sendings) (bulletinAfter (reached calls) (answers (reached calls) sendings))
       (printerAfter P.fresh read) (toPrinter sentWire)
 
--- Behind the request alone BM is in force at the printer end and not yet at the bulletin end. Demand 2 does not speak of these ends,
--- and yet they agree.
+-- Assumed: nothing. BM is asked for and not yet agreed. Promised: it is in force at the printer end alone, and the
+-- ends agree, though demand 2 does not speak of them. Ruled out: a bulletin end that has BM in force by its own
+-- request; a printer end that has it in force only after a DEFINE.
 pub record AskedAgree : Type 0 where
-  pub notYet : B.macrosOn (reached asks) ≡ false
-  pub inForce : P.macrosOn (printerAfter P.fresh (firstReads (wireOf asks))) ≡ true
+  pub notYet : B.bmInForce (reached asks) ≡ false
+  pub inForce : P.bmInForce (printerAfter P.fresh (firstReads (wireOf asks))) ≡ true
   pub agreed : Agreed (reached asks) (printerAfter P.fresh (firstReads (wireOf asks)))

@@ -1,7 +1,6 @@
 -- The two ends as the claims speak of them: by their answers to calls.
-use mathlib.Core.List.{List, [], _∷_}
+use mathlib.Core.List.{List, [], _∷_, flatMap}
 use Prim.Native.Nat.{ℕ, _≤_}
-use Rattle.lists.specs.Lists.{joined}
 use Rattle.codes.specs.Answers.{paperRoom, wireRoom}
 use Rattle.printer.specs.State as P
 use Rattle.printer.specs.Session as PS
@@ -9,35 +8,35 @@ use Rattle.bulletin.specs.State as B
 use Rattle.bulletin.specs.Session as BS
 
 -- the claims name the ends in these three definitions alone
-abbrev pub printerAnswers : P.Printer → List PS.Call → List P.Answer
+abbrev pub printerAnswers : P.PrinterState → List PS.Call → List P.CallEffect
 printerAnswers p calls = PS.answersFrom p calls
 
-abbrev pub bulletinAnswer : B.Bulletin → BS.Call → B.Answer
+abbrev pub bulletinAnswer : B.BulletinState → BS.Call → B.CallEffect
 bulletinAnswer b call = BS.called b call
 
-abbrev pub bulletinAnswers : B.Bulletin → List BS.Call → List B.Answer
+abbrev pub bulletinAnswers : B.BulletinState → List BS.Call → List B.CallEffect
 bulletinAnswers b calls = BS.answersFrom b calls
 
-abbrev pub printerPaper : List P.Answer → List ℕ
-printerPaper answers = joined (λ a. a .did .paper) answers
+abbrev pub printerPaper : List P.CallEffect → List ℕ
+printerPaper answers = flatMap (λ a. a .effect .paper) answers
 
-abbrev pub printerWire : List P.Answer → List ℕ
-printerWire answers = joined (λ a. a .did .wire) answers
+abbrev pub printerWire : List P.CallEffect → List ℕ
+printerWire answers = flatMap (λ a. a .effect .wire) answers
 
-abbrev pub bulletinWire : List B.Answer → List ℕ
-bulletinWire answers = joined (λ a. a .did .wire) answers
+abbrev pub bulletinWire : List B.CallEffect → List ℕ
+bulletinWire answers = flatMap (λ a. a .effect .wire) answers
 
 -- the state behind answers: that of the last one, or where there is none the state before them
-unfoldable pub printerAfter : P.Printer → List P.Answer → P.Printer
+unfoldable pub printerAfter : P.PrinterState → List P.CallEffect → P.PrinterState
 printerAfter p [] = p
-printerAfter p (a ∷ answers) = printerAfter (a .did .state) answers
+printerAfter p (a ∷ answers) = printerAfter (a .effect .state) answers
 
-unfoldable pub bulletinAfter : B.Bulletin → List B.Answer → B.Bulletin
+unfoldable pub bulletinAfter : B.BulletinState → List B.CallEffect → B.BulletinState
 bulletinAfter b [] = b
-bulletinAfter b (a ∷ answers) = bulletinAfter (a .did .state) answers
+bulletinAfter b (a ∷ answers) = bulletinAfter (a .effect .state) answers
 
 -- the bulletin end behind a session
-abbrev pub reached : List BS.Call → B.Bulletin
+abbrev pub reached : List BS.Call → B.BulletinState
 reached session = bulletinAfter B.fresh (bulletinAnswers B.fresh session)
 
 -- Network calls of exactly these bytes, in their order. Each has the two buffers that code 1 asks for; their sizes are else free, and

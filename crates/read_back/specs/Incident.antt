@@ -5,8 +5,8 @@ use Prim.Native.Nat.{ℕ, suc}
 use lib.ListN.{take, drop}
 use Rattle.codes.specs.Answers.{codeNumber}
 use Rattle.keys.specs.declared.Key.the-variants.{Char, Line}
-use Rattle.macros.specs.Texts.{entryOf, text}
-use Rattle.definitions.specs.Sending.{sentOf, refused}
+use Rattle.received_macros.specs.Texts.{entryOf, text}
+use Rattle.sent_macros.specs.Sending.{sentOf, refused}
 use Rattle.printer.specs.State as P
 use Rattle.printer.specs.Session as PS
 use Rattle.bulletin.specs.State as B
@@ -37,24 +37,24 @@ losing n bytes = take n bytes ++ drop (suc n) bytes
 abbrev pub arrived : List ℕ
 arrived = losing 21 (wireOf calls)
 
-abbrev pub b : B.Bulletin
+abbrev pub b : B.BulletinState
 b = reached calls
 
-abbrev pub read : List P.Answer
+abbrev pub read : List P.CallEffect
 read = firstReads arrived
 
-abbrev pub p : P.Printer
+abbrev pub p : P.PrinterState
 p = printerAfter P.fresh read
 
 -- a use of the macro, which is refused; then its byte as a character, A and a Line
 abbrev pub sendings : List Sending
 sendings = macroUse 128 2048 ∷ item (Char 128) 2048 ∷ item (Char 65) 2048 ∷ item Line 2048 ∷ []
 
--- What goes out (`sent`), and what arrives without the second byte of the new text (`lost`). The printer end's replies are those
--- that the session hears, the last of them REFUSE (`replies`): it keeps the old text (`kept`), and the bulletin end has the byte as
--- refused (`isRefused`). The ends meet the premise of demand 2 all the same (`demanded`). A use of the byte has code 10 (`code`),
--- the byte as a character goes out as LITERAL (`wire`), and the paper is the data, without the old text (`paper`). And whatever
--- else is sent is read back (`back`).
+-- Assumed: nothing. 128 has an accepted text. A new one loses a byte on the line (`sent`, `lost`); the printer end
+-- answers REFUSE (`replies`) and keeps the old text (`kept`), the bulletin end has the byte as refused (`isRefused`).
+-- Promised: the premise of demand 2 is met (`demanded`), a use has code 10 (`code`), the byte as a character goes out
+-- as LITERAL (`wire`), the paper is the data (`paper`), all else is read back (`back`). Ruled out: a sender that uses
+-- the byte regardless; an old text on the paper.
 pub record Incident : Type 0 where
   pub sent : wireOf calls
       ≡ 255 ∷ 251 ∷ 19 ∷ 255 ∷ 250 ∷ 19 ∷ 1 ∷ 128 ∷ 3 ∷ 79 ∷ 76 ∷ 68 ∷ 255 ∷ 240 ∷ 255 ∷ 250 ∷ 19 ∷ 1 ∷ 128 ∷ 3 ∷ 78 ∷ 69 ∷ 87 ∷ 255 ∷ 240 ∷ []

@@ -1,14 +1,14 @@
 -- What text goes out by, when that is allowed, and the data that it stands for.
 use mathlib.Core.Path.{_≡_}
-use mathlib.Core.Bool.{Bool, true, not, _&&_}
+use mathlib.Core.Bool.{Bool, true, not, _&&_, cond}
 use mathlib.Core.List.{List, [], _∷_, _++_, map}
 use Prim.Native.Nat.{ℕ}
 use lib.Dec.{leb}
-use Rattle.lists.specs.Choice.{pick, between}
+use Rattle.lists.specs.Choice.{between}
 use Rattle.codes.specs.Answers.{wireRoom}
 use Rattle.keys.specs.declared.Key.{Key}
 use Rattle.keys.specs.declared.Key.the-variants.{Char, Line, Command}
-use Rattle.definitions.specs.Sending.{sentOf, isAccepted}
+use Rattle.sent_macros.specs.Sending.{sentOf, isAccepted}
 use Rattle.bulletin.specs.State as B
 use Rattle.bulletin.specs.Calls.{textData, useData}
 use Rattle.bulletin.specs.Session as BS
@@ -30,32 +30,32 @@ isItem Line = true
 isItem (Command c) = between 241 249 c
 
 -- None of the refusals that document 01 lists: of an item 1, 3 and 13, of a use 1, 6, 13 and 10. It is not read off the answer.
-abbrev pub isAllowed : B.Bulletin → Sending → Bool
+abbrev pub isAllowed : B.BulletinState → Sending → Bool
 isAllowed b (item k w) = leb wireRoom w && isItem k && not (b .awaiting)
-isAllowed b (macroUse x w) = leb wireRoom w && B.macrosOn b && not (b .awaiting) && isAccepted (sentOf (b .table) x)
+isAllowed b (macroUse x w) = leb wireRoom w && B.bmInForce b && not (b .awaiting) && isAccepted (sentOf (b .table) x)
 
-abbrev pub Allowed : B.Bulletin → Sending → Type 0
+abbrev pub Allowed : B.BulletinState → Sending → Type 0
 Allowed b c = isAllowed b c ≡ true
 
 -- the data that it stands for
-abbrev pub dataOf : B.Bulletin → Sending → List ℕ
+abbrev pub dataOf : B.BulletinState → Sending → List ℕ
 dataOf b (item k w) = textData b k
 dataOf b (macroUse x w) = useData b x
 
 -- one that is not allowed sends none
-abbrev pub sentData : B.Bulletin → Sending → List ℕ
-sentData b c = pick (isAllowed b c) (dataOf b c) []
+abbrev pub sentData : B.BulletinState → Sending → List ℕ
+sentData b c = cond (isAllowed b c) (dataOf b c) []
 
-abbrev pub answer : B.Bulletin → Sending → B.Answer
+abbrev pub answer : B.BulletinState → Sending → B.CallEffect
 answer b c = bulletinAnswer b (asCall c)
 
-abbrev pub answers : B.Bulletin → List Sending → List B.Answer
+abbrev pub answers : B.BulletinState → List Sending → List B.CallEffect
 answers b cs = bulletinAnswers b (map asCall cs)
 
 -- of a list of them, each in the state that the one before left: all data, and all bytes on the wire
-unfoldable pub allData : B.Bulletin → List Sending → List ℕ
+unfoldable pub allData : B.BulletinState → List Sending → List ℕ
 allData b [] = []
-allData b (c ∷ cs) = sentData b c ++ allData (answer b c .did .state) cs
+allData b (c ∷ cs) = sentData b c ++ allData (answer b c .effect .state) cs
 
-abbrev pub allWire : B.Bulletin → List Sending → List ℕ
+abbrev pub allWire : B.BulletinState → List Sending → List ℕ
 allWire b cs = bulletinWire (answers b cs)

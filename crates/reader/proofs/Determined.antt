@@ -3,7 +3,7 @@ use mathlib.Core.Path.{_≡_, ap}
 use lib.ListN.{length}
 use Rattle.lists.proofs.Known.{same-array}
 use Rattle.reader.specs.Reading.{bodyRoom}
-use Rattle.reader.specs.Kept.{viewReader, CleanReader}
+use Rattle.reader.specs.Refinement.{viewReader, CleanReader}
 use Rattle.reader.specs.declared.Reader.{Reader}
 
 pub same-reader : (p q : Reader) → length (p .body) ≡ bodyRoom → length (q .body) ≡ bodyRoom → CleanReader p → CleanReader q

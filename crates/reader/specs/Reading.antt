@@ -1,11 +1,10 @@
 -- One byte read: what it completes and where the reader then stands.
-use mathlib.Core.Bool.{Bool, true, false, not, _&&_}
+use mathlib.Core.Bool.{Bool, true, false, not, _&&_, cond}
 use mathlib.Core.List.{List, [], _∷_, _++_}
 use Prim.Native.Nat.{ℕ}
 use lib.ListN.{length}
 use lib.Dec.{ltb, eqb}
-use Rattle.lists.specs.Choice.{pick}
-use Rattle.codes.specs.Telnet.{IAC, SB, SE, plainCommand}
+use Rattle.codes.specs.Telnet.{IAC, SB, SE, plainCommand, WILL, WONT, DO, DONT}
 use Rattle.codes.specs.declared.Verb.{Verb}
 use Rattle.codes.specs.declared.Verb.the-variants.{Will, Wont, Do, Dont}
 use Rattle.reader.specs.declared.Phase.{Phase}
@@ -13,63 +12,63 @@ use Rattle.reader.specs.declared.Phase.the-variants.{Between, AfterIac, 
 use Rattle.reader.specs.declared.Item.{Item}
 use Rattle.reader.specs.declared.Item.the-variants.{Nothing, Data, Negotiated, BodyEnd, StrayCommand}
 
-pub record Reader : Type 0 where
+pub record ReaderState : Type 0 where
   pub phase : Phase
   pub marred : Bool
   pub body : List ℕ
 
-pub record Read : Type 0 where
+pub record ReadEffect : Type 0 where
   pub item : Item
-  pub reader : Reader
+  pub reader : ReaderState
 
-abbrev pub idle : Reader
+abbrev pub idle : ReaderState
 idle = record { phase = Between; marred = false; body = [] }
 
-abbrev pub inPhase : Reader → Phase → Reader
+abbrev pub inPhase : ReaderState → Phase → ReaderState
 inPhase r p = record { phase = p; marred = r .marred; body = r .body }
 
 -- how many bytes of a body are kept
 abbrev pub bodyRoom : ℕ
 bodyRoom = 260
 
-unfoldable pub keeping : Reader → ℕ → Reader
-keeping r b = record { phase = InBody; marred = r .marred; body = pick (ltb (length (r .body)) bodyRoom) (r .body ++ b ∷ []) (r .body) }
+unfoldable pub keeping : ReaderState → ℕ → ReaderState
+keeping r b = record { phase = InBody; marred = r .marred; body = cond (ltb (length (r .body)) bodyRoom) (r .body ++ b ∷ []) (r .body) }
 
 -- IAC with a byte that is neither IAC nor SE mars the body; both are dropped
-abbrev pub marring : Reader → Reader
+abbrev pub marring : ReaderState → ReaderState
 marring r = record { phase = InBody; marred = true; body = r .body }
 
-abbrev pub gives : Item → Reader → Read
+abbrev pub gives : Item → ReaderState → ReadEffect
 gives i r = record { item = i; reader = r }
 
-abbrev pub goes : Phase → Reader → Read
+abbrev pub goes : Phase → ReaderState → ReadEffect
 goes p r = gives Nothing (inPhase r p)
 
-unfoldable pub commandRead : Reader → ℕ → Read
+unfoldable pub commandRead : ReaderState → ℕ → ReadEffect
 commandRead r b =
-    pick (eqb b IAC) (gives (Data IAC) (inPhase r Between))
-    (pick (eqb b SB) (goes InBody idle)
-    (pick (eqb b 251) (goes (AfterVerb Will) r)
-    (pick (eqb b 252) (goes (AfterVerb Wont) r)
-    (pick (eqb b 253) (goes (AfterVerb Do) r)
-    (pick (eqb b 254) (goes (AfterVerb Dont) r)
-    (pick (plainCommand b) (goes Between r)
+    cond (eqb b IAC) (gives (Data IAC) (inPhase r Between))
+    (cond (eqb b SB) (goes InBody idle)
+    (cond (eqb b WILL) (goes (AfterVerb Will) r)
+    (cond (eqb b WONT) (goes (AfterVerb Wont) r)
+    (cond (eqb b DO) (goes (AfterVerb Do) r)
+    (cond (eqb b DONT) (goes (AfterVerb Dont) r)
+    (cond (plainCommand b) (goes Between r)
     (gives StrayCommand (inPhase r Between))))))))
 
-unfoldable pub bodyCommandRead : Reader → ℕ → Read
+unfoldable pub bodyCommandRead : ReaderState → ℕ → ReadEffect
 bodyCommandRead r b =
-    pick (eqb b IAC) (gives Nothing (keeping r IAC))
-    (pick (eqb b SE) (gives BodyEnd (inPhase r Between))
+    cond (eqb b IAC) (gives Nothing (keeping r IAC))
+    (cond (eqb b SE) (gives BodyEnd (inPhase r Between))
     (gives Nothing (marring r)))
 
-abbrev pub readIn : Phase → Reader → ℕ → Read
-readIn Between r b = pick (eqb b IAC) (goes AfterIac r) (gives (Data b) r)
+abbrev pub readIn : Phase → ReaderState → ℕ → ReadEffect
+readIn Between r b = cond (eqb b IAC) (goes AfterIac r) (gives (Data b) r)
 readIn AfterIac r b = commandRead r b
 readIn (AfterVerb v) r b = gives (Negotiated v b) (inPhase r Between)
-readIn InBody r b = pick (eqb b IAC) (goes InBodyAfterIac r) (gives Nothing (keeping r b))
+readIn InBody r b = cond (eqb b IAC) (goes InBodyAfterIac r) (gives Nothing (keeping r b))
 readIn InBodyAfterIac r b = bodyCommandRead r b
 
-unfoldable pub read : Reader → ℕ → Read
+unfoldable pub read : ReaderState → ℕ → ReadEffect
 read r b = readIn (r .phase) r b
 
 abbrev pub isBetween : Phase → Bool
@@ -98,5 +97,5 @@ itemBy nothing dataRead negotiated bodyEnd stray BodyEnd = bodyEnd
 itemBy nothing dataRead negotiated bodyEnd stray StrayCommand = stray
 
 -- a byte read by an end: the item that it completes, handled in the state that has the reader as the byte left it
-abbrev pub byteBy : {S D : Type 0} → (S → Reader → S) → (S → Item → D) → S → Read → D
+abbrev pub byteBy : {S D : Type 0} → (S → ReaderState → S) → (S → Item → D) → S → ReadEffect → D
 byteBy withReader handled s r = handled (withReader s (r .reader)) (r .item)

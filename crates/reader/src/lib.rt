@@ -2,7 +2,7 @@
 ghost use mathlib.Core.Path.{_≡_};
 ghost use Prim.Native.Nat.{min};
 ghost use Rattle.reader.specs.Reading.{inPhase, gives, keeping, marring, commandRead, bodyCommandRead, readIn, read, isBetween, isData};
-ghost use Rattle.reader.specs.Kept.{viewReader, MetIdle, MetRead};
+ghost use Rattle.reader.specs.Refinement.{viewReader, idleCells, RefinesRead};
 use codes::DO;
 use codes::DONT;
 use codes::GA;
@@ -49,7 +49,7 @@ pub struct Read {
 }
 
 pub fn idle() -> Reader
-    ensures { λ r. ⌜ MetIdle r ⌝ }
+    ensures { λ r. ⌜ r ≡ idleCells ⌝ }
 {
     Reader {
         phase: Phase::Between,
@@ -73,7 +73,7 @@ pub fn is_between(phase: Phase) -> bool
 
 // The item, and the same reader in another phase.
 fn stepped(r: Reader, phase: Phase, item: Item) -> Read
-    ensures { λ x. ⌜ MetRead (gives item (inPhase (viewReader r) phase)) r x ⌝ }
+    ensures { λ x. ⌜ RefinesRead (gives item (inPhase (viewReader r) phase)) r x ⌝ }
 {
     let body = r.body;
     Read {
@@ -89,7 +89,7 @@ fn stepped(r: Reader, phase: Phase, item: Item) -> Read
 
 // A byte of the body: past the room it is dropped.
 fn kept(r: Reader, b: u8) -> Read
-    ensures { λ x. ⌜ MetRead (gives Item.Nothing (keeping (viewReader r) b)) r x ⌝ }
+    ensures { λ x. ⌜ RefinesRead (gives Item.Nothing (keeping (viewReader r) b)) r x ⌝ }
 {
     let len = r.len;
     if len < BODY_ROOM {
@@ -109,7 +109,7 @@ fn kept(r: Reader, b: u8) -> Read
 }
 
 fn marred(r: Reader) -> Read
-    ensures { λ x. ⌜ MetRead (gives Item.Nothing (marring (viewReader r))) r x ⌝ }
+    ensures { λ x. ⌜ RefinesRead (gives Item.Nothing (marring (viewReader r))) r x ⌝ }
 {
     let body = r.body;
     Read {
@@ -134,7 +134,7 @@ pub fn is_data(phase: Phase, b: u8) -> bool
 }
 
 fn text_byte(r: Reader, b: u8) -> Read
-    ensures { λ x. ⌜ MetRead (readIn Phase.Between (viewReader r) b) r x ⌝ }
+    ensures { λ x. ⌜ RefinesRead (readIn Phase.Between (viewReader r) b) r x ⌝ }
 {
     if b == IAC {
         return stepped(r, Phase::AfterIac, Item::Nothing);
@@ -147,7 +147,7 @@ fn text_byte(r: Reader, b: u8) -> Read
 
 // The byte after IAC.
 fn command_byte(r: Reader, b: u8) -> Read
-    ensures { λ x. ⌜ MetRead (commandRead (viewReader r) b) r x ⌝ }
+    ensures { λ x. ⌜ RefinesRead (commandRead (viewReader r) b) r x ⌝ }
 {
     match b {
         IAC => stepped(r, Phase::Between, Item::Data(IAC)),
@@ -162,7 +162,7 @@ fn command_byte(r: Reader, b: u8) -> Read
 }
 
 fn body_byte(r: Reader, b: u8) -> Read
-    ensures { λ x. ⌜ MetRead (readIn Phase.InBody (viewReader r) b) r x ⌝ }
+    ensures { λ x. ⌜ RefinesRead (readIn Phase.InBody (viewReader r) b) r x ⌝ }
 {
     if b == IAC {
         return stepped(r, Phase::InBodyAfterIac, Item::Nothing);
@@ -172,7 +172,7 @@ fn body_byte(r: Reader, b: u8) -> Read
 
 // The byte after IAC in a body.
 fn body_command_byte(r: Reader, b: u8) -> Read
-    ensures { λ x. ⌜ MetRead (bodyCommandRead (viewReader r) b) r x ⌝ }
+    ensures { λ x. ⌜ RefinesRead (bodyCommandRead (viewReader r) b) r x ⌝ }
 {
     match b {
         IAC => kept(r, IAC),
@@ -182,7 +182,7 @@ fn body_command_byte(r: Reader, b: u8) -> Read
 }
 
 pub fn read_byte(r: Reader, b: u8) -> Read
-    ensures { λ x. ⌜ MetRead (read (viewReader r) b) r x ⌝ }
+    ensures { λ x. ⌜ RefinesRead (read (viewReader r) b) r x ⌝ }
 {
     let phase = r.phase;
     match phase {

@@ -25,7 +25,7 @@ fn main() {
         os::fail(b"standard input");
         return;
     }
-    if !replaying::print_tape(&tape[..n]) {
+    if !tape_output::print_tape(&tape[..n]) {
         os::fail(b"standard output");
     }
 }

@@ -34,11 +34,12 @@ use denote.Triple.Clauses.{Ended, Clauses, closing, ensured, lasts}
 use denote.Triple.Walked.{says, Stays, stay-ref, stay-none, stay-none-slice, gave-slice, walkOf, goes-none, goes-ref, goes-none-slice, goes-gave-slice, Walks, ends-at, walked, walk-meets}
 use denote.Exit.{yes}
 use denote.Signature.{plain, mutRefTo, shrSliceOf, mutSliceOf}
+use Rattle.lists.specs.Buffers.{Lent, lentAs}
 use Rattle.sessions.proofs.Wrappers.{Plainly, row, Types, Laws, answered, onWire}
 
 -- what a call by value answers, of the state, its argument and its text, and the wire before and after
 abbrev pub Answers : Types → RattleType → Type 1
-Answers K R = K .state .Denot → R .Denot → List ℕ → List ℕ → List ℕ → K .answer .Denot → Type 0
+Answers K R = K .state .Denot → R .Denot → List ℕ → Lent → K .answer .Denot → Type 0
 
 module _ (K : Types) (R : RattleType) (τ : Ty) where
   abbrev wrapper : Name → Fn
@@ -77,14 +78,14 @@ module _ (K : Types) (R : RattleType) (τ : Ty) where
     inner-clauses κs a = record {
       ghost = Unit {0};
       requires = λ g. emp 𝓤;
-      ensures = λ g r e. fact 𝓤 (Met (a .0) (a .1 .0) (now (a .1 .1 .0)) (now (a .1 .1 .1 .0)) (now (e .1 .1 .1 .0)) r);
+      ensures = λ g r e. fact 𝓤 (Met (a .0) (a .1 .0) (now (a .1 .1 .0)) (lentAs (now (a .1 .1 .1 .0)) (now (e .1 .1 .1 .0))) r);
     }
 
     abbrev pub outer-clauses : Clauses 𝓤 outer
     outer-clauses κs a = record {
       ghost = Unit {0};
       requires = λ g. emp 𝓤;
-      ensures = λ g r e. fact 𝓤 (Met (now (a .0)) (a .1 .0) (now (a .1 .1 .0)) (now (a .1 .1 .1 .0)) (now (e .1 .1 .1 .0)) (L .back r (now (e .0))));
+      ensures = λ g r e. fact 𝓤 (Met (now (a .0)) (a .1 .0) (now (a .1 .1 .0)) (lentAs (now (a .1 .1 .1 .0)) (now (e .1 .1 .1 .0))) (L .back r (now (e .0))));
     }
 
   module _ {M : Type 1} (𝓤 : URA M) (H : Heap 𝓤) (A : Atoms 𝓤) (W : Given 𝓤 H A) (L : Laws K) (B : Plainly R τ) (Met : Answers K R) (κ κ₁ κ₂ : Lft) (q q₁ q₂ : Share) (b o : ℕ) (γ : GName) (h : K .state .Denot) (k : R .Denot) (k-is : Is R k (B .val k ∷ [])) (t : RefT (List ℕ)) (t-is : Is (ShrSlice (named 1) κ₁ u8) t (sliceVal (t .ptr) (length (t .now)) ∷ [])) (z : RefT (List ℕ)) where
@@ -131,12 +132,12 @@ module _ (K : Types) (R : RattleType) (τ : Ty) where
     abbrev left : K .answer .Denot → Val
     left r = vstruct (vcons (L .v₀ r) (vcons (L .v₁ r) (vcons (L .v₂ r) (vcons (L .v₃ r) vnil))))
 
-    exits : (r : K .answer .Denot) (w : Val) (zs : List ℕ) → Met h k (t .now) (z .now) zs r → length zs ≡ length (z .now) → Is (K .answer) r (w ∷ [])
+    exits : (r : K .answer .Denot) (w : Val) (zs : List ℕ) → Met h k (t .now) (lentAs (z .now) zs) r → length zs ≡ length (z .now) → Is (K .answer) r (w ∷ [])
         → ent 𝓤 (⋆ 𝓤 H A (‵ (fobs γ (P .coded .code (L .after r))) ∷ ‵ (fbor κ (Body (mem P) b o γ)) ∷ ‵ (flft κ q) ∷ (‵ (flft κ₁ q₁) ⊛ ‵ (flft κ₂ q₂) ⊛ ‵ ftrue) ∷ ‵ (finally u8 (z .name) zs) ∷ ‵ Text ∷ [])) (Post (left r))
     exits r w zs met lz is =
         qed W (‵ (fobs γ (P .coded .code (L .after r))) ∷ ‵ (fbor κ (Body (mem P) b o γ)) ∷ ‵ (flft κ q) ∷ (‵ (flft κ₁ q₁) ⊛ ‵ (flft κ₂ q₂) ⊛ ‵ ftrue) ∷ ‵ (finally u8 (z .name) zs) ∷ ‵ Text ∷ []) ∵
         suffices ! _ (ends-at 𝓤 H A outer stayed (outer-clauses 𝓤 L Met) W (((κ, (κ₁, (κ₂, tt))), (q, (q₁, (q₂, tt))), tt, a, vals), tt) _ (L .out r) (L .after r, (tt, (tt, (zs, tt)))) (tt, (tt, (tt, (lz, tt))))) $
-        says ! (subst (Met h k (t .now) (z .now) zs) (L .back-is r) met) $ move ! (2 ∷ 3 ∷ []) $ join ! $ frame ! $ feqI ! (List Val) (vptr b o ∷ []) (vptr b o ∷ []) refl $ fjoin3 ! $
+        says ! (subst (Met h k (t .now) (lentAs (z .now) zs)) (L .back-is r) met) $ move ! (2 ∷ 3 ∷ []) $ join ! $ frame ! $ feqI ! (List Val) (vptr b o ∷ []) (vptr b o ∷ []) refl $ fjoin3 ! $
         nothing ! $ move ! (2 ∷ 0 ∷ []) $ fjoin ! $ move ! (2 ∷ 0 ∷ []) $ fjoin ! $ owned ! R (Is R) (B .makes 𝓤 H A W) k _ k-is $ fjoin ! $ move ! (1 ∷ 0 ∷ []) $ fjoin ! $
         owned ! (K .outcome) (Is (K .outcome)) (L .out-makes 𝓤 H A W) (L .out r) _ (L .out-is r w is) $ move ! (1 ∷ 0 ∷ []) $ done !
 
@@ -159,8 +160,8 @@ module _ (K : Types) (R : RattleType) (τ : Ty) where
           -- [what the call asks; the record's cell; what it owns; the open borrow; the observation; the authority; the text; the locals], the local i at 25 − 2i
           calls-at ! fm Inner known to-inner (and-then ! (load ! (from ! (stop !)) (look ! 11 refl)) (and-then ! (load ! (from ! (stop !)) (look ! 21 refl)) (and-then ! (load ! (from ! (stop !)) (look ! 19 refl)) (and-then ! (load ! (from ! (stop !)) (look ! 7 refl)) (no-more !))))) (λ w.
           use1 W (later (some (λ (r : K .answer .Denot). ((‵ (flft κ₁ q₁) ⊛ ‵ (flft κ₂ q₂) ⊛ ‵ ftrue) ⊛ ‵ (K .answer .own r (w ∷ []))) ⊛ raw (ensured 𝓤 H A inner (inner-clauses 𝓤 L Met) (κ₁, (κ₂, tt)) (h, (k, (t, (z, tt)))) tt r)))) (id⊢ 𝓤 _) $ await ! tt $ pick ! (λ r.
-          split ! $ move ! (1 ∷ []) $ use1 W (some (λ (ws : Unit {0} × (Unit {0} × (Unit {0} × (List ℕ × Unit {0})))). ‵ (lasts inner (κ₁, (κ₂, tt)) (h, (k, (t, (z, tt)))) ws) ⊛ raw (fact 𝓤 (Met h k (t .now) (z .now) (ws .1 .1 .1 .0) r)))) (id⊢ 𝓤 _) $ pick ! (λ ws.
-          split ! $ move ! (1 ∷ []) $ heard ! (Met h k (t .now) (z .now) (ws .1 .1 .1 .0) r) (λ met.
+          split ! $ move ! (1 ∷ []) $ use1 W (some (λ (ws : Unit {0} × (Unit {0} × (Unit {0} × (List ℕ × Unit {0})))). ‵ (lasts inner (κ₁, (κ₂, tt)) (h, (k, (t, (z, tt)))) ws) ⊛ raw (fact 𝓤 (Met h k (t .now) (lentAs (z .now) (ws .1 .1 .1 .0)) r)))) (id⊢ 𝓤 _) $ pick ! (λ ws.
+          split ! $ move ! (1 ∷ []) $ heard ! (Met h k (t .now) (lentAs (z .now) (ws .1 .1 .1 .0)) r) (λ met.
           fsplit ! $ drop ! $ fsplit ! $ drop ! $ fsplit ! $ drop ! $ fsplit ! $ fsplit ! $ move ! (1 ∷ []) $ feqL ! (λ lz.
           -- [the wire's last list; true; the tokens and the answer; the record's cell; what it owns; the open borrow; the observation; the authority; the text; the locals]
           move ! (2 ∷ []) $ split ! $ move ! (1 ∷ []) $ peeks ! (K .answer) (Is (K .answer)) (shows 𝓤 H A (K .answer)) r (w ∷ []) (λ is.

@@ -172,8 +172,8 @@ abbrev recorded : ℕ → Body → Body
 recorded i rest = seq (assign (at i) (rvOpd (copy (at 1)))) (seq (assign (at (i + 2)) (addrOf (at i))) rest)
 
 -- behind the call: the outcome in the local i + 1 is returned with the record's state, by the local j
-abbrev joined : ℕ → ℕ → Body
-joined i j =
+abbrev joinedBody : ℕ → ℕ → Body
+joinedBody i j =
     seq (assign (at j) (rvOpd (copy (at i))))
     (seq (assign (at 0) (aggregate (part (i + 1) 0 ∷ part (i + 1) 1 ∷ part (i + 1) 2 ∷ part (i + 1) 3 ∷ copy (at j) ∷ []))) return)
 
@@ -186,7 +186,7 @@ withBoth K τs name = record {
   locals = of (answered K) ∷ of (K .stated) ∷ each τs (of (slice (named 0)) ∷ of (slice (named 1)) ∷ recordLocals K (lentLocals (lentLocals (of (K .stated) ∷ []))));
   body =
       recorded (length τs + 4) (lentOn (length τs + 2) (length τs + 7) (lentOn (length τs + 3) (length τs + 9)
-      (seq (call name (copy (at (length τs + 6)) ∷ passed 2 τs (copy (at (length τs + 8)) ∷ copy (at (length τs + 10)) ∷ [])) (at (length τs + 5))) (joined (length τs + 4) (length τs + 11)))));
+      (seq (call name (copy (at (length τs + 6)) ∷ passed 2 τs (copy (at (length τs + 8)) ∷ copy (at (length τs + 10)) ∷ [])) (at (length τs + 5))) (joinedBody (length τs + 4) (length τs + 11)))));
 }
 
 -- one that calls it with the wire alone, which has the lifetime ℓ, the last
@@ -198,5 +198,5 @@ withWire K ℓ τs name = record {
   locals = of (answered K) ∷ of (K .stated) ∷ each τs (of (slice (named ℓ)) ∷ recordLocals K (lentLocals (of (K .stated) ∷ [])));
   body =
       recorded (length τs + 3) (lentOn (length τs + 2) (length τs + 6)
-      (seq (call name (copy (at (length τs + 5)) ∷ passed 2 τs (copy (at (length τs + 7)) ∷ [])) (at (length τs + 4))) (joined (length τs + 3) (length τs + 8))));
+      (seq (call name (copy (at (length τs + 5)) ∷ passed 2 τs (copy (at (length τs + 7)) ∷ [])) (at (length τs + 4))) (joinedBody (length τs + 3) (length τs + 8))));
 }

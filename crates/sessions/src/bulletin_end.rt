@@ -1,6 +1,7 @@
 // The bulletin end's calls and its questions on a lent `Bulletin`, as the printer end's on a lent `Printer`.
 ghost use mathlib.Core.Path.{_≡_};
-ghost use lib.ListN.{length};
+ghost use Rattle.lists.specs.Buffers.{lent};
+ghost use Rattle.disposition.specs.Returns.{reportOf};
 ghost use Rattle.bulletin.specs.Calls.{
   networkCall,
   askCall,
@@ -13,18 +14,18 @@ ghost use Rattle.bulletin.specs.Calls.{
   returnsReport,
   outputNow,
 };
-ghost use Rattle.bulletin.specs.Kept.{viewBulletin, MetAnswer, MetOnWire};
-ghost use Rattle.sessions.specs.LentAnswers.{bulletinAnswer};
+ghost use Rattle.bulletin.specs.Refinement.{viewBulletin};
+ghost use Rattle.sessions.specs.LentAnswers.{RefinesOnBulletin, RefinesOnBulletinWire};
 use crate::BulletinOutcome;
 use bulletin::Bulletin;
 use bulletin::Output;
 use bulletin::calls;
-use definitions::Status;
 use disposition::Handling;
 use keys::Key;
+use sent_macros::Status;
 
 pub fn network_byte(s: &mut Bulletin, b: u8, host: &mut [u8], wire: &mut [u8]) -> BulletinOutcome
-    ensures { λ r. ⌜ MetAnswer (networkCall (viewBulletin (now (s .entry))) b (length (now (host .entry))) (length (now (wire .entry)))) (now (s .entry)) (now (host .entry)) (now (host .exit)) (now (wire .entry)) (now (wire .exit)) (bulletinAnswer r (now (s .exit))) ⌝ }
+    ensures { λ r. ⌜ RefinesOnBulletin (λ t. networkCall t b) s (lent host) (lent wire) r ⌝ }
 {
     let a = calls::network_byte(*s, b, host, wire);
     let state = a.state;
@@ -38,7 +39,7 @@ pub fn network_byte(s: &mut Bulletin, b: u8, host: &mut [u8], wire: &mut [u8]) -
 }
 
 pub fn ask(s: &mut Bulletin, option: u8, way: u8, wire: &mut [u8]) -> BulletinOutcome
-    ensures { λ r. ⌜ MetOnWire (askCall (viewBulletin (now (s .entry))) option way (length (now (wire .entry)))) (now (s .entry)) (now (wire .entry)) (now (wire .exit)) (bulletinAnswer r (now (s .exit))) ⌝ }
+    ensures { λ r. ⌜ RefinesOnBulletinWire (λ t. askCall t option way) s (lent wire) r ⌝ }
 {
     let a = calls::ask(*s, option, way, wire);
     let state = a.state;
@@ -52,7 +53,7 @@ pub fn ask(s: &mut Bulletin, option: u8, way: u8, wire: &mut [u8]) -> BulletinOu
 }
 
 pub fn suggest(s: &mut Bulletin, v: u8, wire: &mut [u8]) -> BulletinOutcome
-    ensures { λ r. ⌜ MetOnWire (suggestCall (viewBulletin (now (s .entry))) v (length (now (wire .entry)))) (now (s .entry)) (now (wire .entry)) (now (wire .exit)) (bulletinAnswer r (now (s .exit))) ⌝ }
+    ensures { λ r. ⌜ RefinesOnBulletinWire (λ t. suggestCall t v) s (lent wire) r ⌝ }
 {
     let a = calls::suggest(*s, v, wire);
     let state = a.state;
@@ -66,7 +67,7 @@ pub fn suggest(s: &mut Bulletin, v: u8, wire: &mut [u8]) -> BulletinOutcome
 }
 
 pub fn order(s: &mut Bulletin, cmd: u8, breaks: u16, sends: u16, wire: &mut [u8]) -> BulletinOutcome
-    ensures { λ r. ⌜ MetOnWire (orderCall (viewBulletin (now (s .entry))) cmd breaks sends (length (now (wire .entry)))) (now (s .entry)) (now (wire .entry)) (now (wire .exit)) (bulletinAnswer r (now (s .exit))) ⌝ }
+    ensures { λ r. ⌜ RefinesOnBulletinWire (λ t. orderCall t cmd breaks sends) s (lent wire) r ⌝ }
 {
     let a = calls::order(*s, cmd, breaks, sends, wire);
     let state = a.state;
@@ -80,7 +81,7 @@ pub fn order(s: &mut Bulletin, cmd: u8, breaks: u16, sends: u16, wire: &mut [u8]
 }
 
 pub fn define(s: &mut Bulletin, x: u8, text: &[u8], wire: &mut [u8]) -> BulletinOutcome
-    ensures { λ r. ⌜ MetOnWire (defineCall (viewBulletin (now (s .entry))) x (now (text .entry)) (length (now (wire .entry)))) (now (s .entry)) (now (wire .entry)) (now (wire .exit)) (bulletinAnswer r (now (s .exit))) ⌝ }
+    ensures { λ r. ⌜ RefinesOnBulletinWire (λ t. defineCall t x (now (text .entry))) s (lent wire) r ⌝ }
 {
     let a = calls::define(*s, x, text, wire);
     let state = a.state;
@@ -94,7 +95,7 @@ pub fn define(s: &mut Bulletin, x: u8, text: &[u8], wire: &mut [u8]) -> Bulletin
 }
 
 pub fn use_macro(s: &mut Bulletin, x: u8, wire: &mut [u8]) -> BulletinOutcome
-    ensures { λ r. ⌜ MetOnWire (useCall (viewBulletin (now (s .entry))) x (length (now (wire .entry)))) (now (s .entry)) (now (wire .entry)) (now (wire .exit)) (bulletinAnswer r (now (s .exit))) ⌝ }
+    ensures { λ r. ⌜ RefinesOnBulletinWire (λ t. useCall t x) s (lent wire) r ⌝ }
 {
     let a = calls::use_macro(*s, x, wire);
     let state = a.state;
@@ -108,7 +109,7 @@ pub fn use_macro(s: &mut Bulletin, x: u8, wire: &mut [u8]) -> BulletinOutcome
 }
 
 pub fn text_item(s: &mut Bulletin, k: Key, wire: &mut [u8]) -> BulletinOutcome
-    ensures { λ r. ⌜ MetOnWire (textCall (viewBulletin (now (s .entry))) k (length (now (wire .entry)))) (now (s .entry)) (now (wire .entry)) (now (wire .exit)) (bulletinAnswer r (now (s .exit))) ⌝ }
+    ensures { λ r. ⌜ RefinesOnBulletinWire (λ t. textCall t k) s (lent wire) r ⌝ }
 {
     let a = calls::text_item(*s, k, wire);
     let state = a.state;
@@ -130,7 +131,7 @@ pub fn macro_status(s: &Bulletin, x: u8) -> Status
 
 // Who handles carriage returns, and how.
 pub fn report(s: &Bulletin) -> Handling
-    ensures { λ r. ⌜ r ≡ returnsReport (viewBulletin (now (s .entry))) ⌝ }
+    ensures { λ r. ⌜ reportOf r ≡ returnsReport (viewBulletin (now (s .entry))) ⌝ }
 {
     calls::report(*s)
 }

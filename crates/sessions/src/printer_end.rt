@@ -2,10 +2,11 @@
 // state before the call as the one passed and its state after the call as the one returned. So a refused call leaves the
 // record as it was, every byte.
 ghost use mathlib.Core.Path.{_≡_};
-ghost use lib.ListN.{length};
+ghost use Rattle.lists.specs.Buffers.{lent};
+ghost use Rattle.disposition.specs.Returns.{reportOf};
 ghost use Rattle.printer.specs.Calls.{networkCall, keyCall, askCall, suggestCall, returnsReport};
-ghost use Rattle.printer.specs.Kept.{viewPrinter, MetAnswer};
-ghost use Rattle.sessions.specs.LentAnswers.{printerAnswer};
+ghost use Rattle.printer.specs.Refinement.{viewPrinter};
+ghost use Rattle.sessions.specs.LentAnswers.{RefinesOnPrinter};
 use crate::PrinterOutcome;
 use disposition::Handling;
 use keys::Key;
@@ -13,7 +14,7 @@ use printer::Printer;
 use printer::calls;
 
 pub fn network_byte(s: &mut Printer, b: u8, paper: &mut [u8], wire: &mut [u8]) -> PrinterOutcome
-    ensures { λ r. ⌜ MetAnswer (networkCall (viewPrinter (now (s .entry))) b (length (now (paper .entry))) (length (now (wire .entry)))) (now (s .entry)) (now (paper .entry)) (now (paper .exit)) (now (wire .entry)) (now (wire .exit)) (printerAnswer r (now (s .exit))) ⌝ }
+    ensures { λ r. ⌜ RefinesOnPrinter (λ t. networkCall t b) s (lent paper) (lent wire) r ⌝ }
 {
     let a = calls::network_byte(*s, b, paper, wire);
     let state = a.state;
@@ -27,7 +28,7 @@ pub fn network_byte(s: &mut Printer, b: u8, paper: &mut [u8], wire: &mut [u8]) -
 }
 
 pub fn press(s: &mut Printer, k: Key, paper: &mut [u8], wire: &mut [u8]) -> PrinterOutcome
-    ensures { λ r. ⌜ MetAnswer (keyCall (viewPrinter (now (s .entry))) k (length (now (paper .entry))) (length (now (wire .entry)))) (now (s .entry)) (now (paper .entry)) (now (paper .exit)) (now (wire .entry)) (now (wire .exit)) (printerAnswer r (now (s .exit))) ⌝ }
+    ensures { λ r. ⌜ RefinesOnPrinter (λ t. keyCall t k) s (lent paper) (lent wire) r ⌝ }
 {
     let a = calls::press(*s, k, paper, wire);
     let state = a.state;
@@ -47,7 +48,7 @@ pub fn ask(
     paper: &mut [u8],
     wire: &mut [u8],
 ) -> PrinterOutcome
-    ensures { λ r. ⌜ MetAnswer (askCall (viewPrinter (now (s .entry))) option way (length (now (paper .entry))) (length (now (wire .entry)))) (now (s .entry)) (now (paper .entry)) (now (paper .exit)) (now (wire .entry)) (now (wire .exit)) (printerAnswer r (now (s .exit))) ⌝ }
+    ensures { λ r. ⌜ RefinesOnPrinter (λ t. askCall t option way) s (lent paper) (lent wire) r ⌝ }
 {
     let a = calls::ask(*s, option, way, paper, wire);
     let state = a.state;
@@ -61,7 +62,7 @@ pub fn ask(
 }
 
 pub fn suggest(s: &mut Printer, v: u8, paper: &mut [u8], wire: &mut [u8]) -> PrinterOutcome
-    ensures { λ r. ⌜ MetAnswer (suggestCall (viewPrinter (now (s .entry))) v (length (now (paper .entry))) (length (now (wire .entry)))) (now (s .entry)) (now (paper .entry)) (now (paper .exit)) (now (wire .entry)) (now (wire .exit)) (printerAnswer r (now (s .exit))) ⌝ }
+    ensures { λ r. ⌜ RefinesOnPrinter (λ t. suggestCall t v) s (lent paper) (lent wire) r ⌝ }
 {
     let a = calls::suggest(*s, v, paper, wire);
     let state = a.state;
@@ -76,7 +77,7 @@ pub fn suggest(s: &mut Printer, v: u8, paper: &mut [u8], wire: &mut [u8]) -> Pri
 
 // Who handles carriage returns, and how.
 pub fn report(s: &Printer) -> Handling
-    ensures { λ r. ⌜ r ≡ returnsReport (viewPrinter (now (s .entry))) ⌝ }
+    ensures { λ r. ⌜ reportOf r ≡ returnsReport (viewPrinter (now (s .entry))) ⌝ }
 {
     calls::report(*s)
 }

@@ -1,14 +1,14 @@
 // The bulletin end's calls for a caller that keeps the state by value, as the printer end's.
-ghost use lib.ListN.{length};
+ghost use Rattle.lists.specs.Buffers.{lent};
 ghost use Rattle.bulletin.specs.Calls.{networkCall, askCall, defineCall, useCall, textCall};
-ghost use Rattle.bulletin.specs.Kept.{viewBulletin, MetAnswer, MetOnWire};
+ghost use Rattle.bulletin.specs.Refinement.{viewBulletin, RefinesAnswer, RefinesAnswerOnWire};
 use crate::bulletin_end;
 use bulletin::Answer;
 use bulletin::Bulletin;
 use keys::Key;
 
 pub fn network_byte(s: Bulletin, b: u8, host: &mut [u8], wire: &mut [u8]) -> Answer
-    ensures { λ r. ⌜ MetAnswer (networkCall (viewBulletin s) b (length (now (host .entry))) (length (now (wire .entry)))) s (now (host .entry)) (now (host .exit)) (now (wire .entry)) (now (wire .exit)) r ⌝ }
+    ensures { λ r. ⌜ RefinesAnswer (networkCall (viewBulletin s) b) s (lent host) (lent wire) r ⌝ }
 {
     let mut record = s;
     let o = bulletin_end::network_byte(&mut record, b, host, wire);
@@ -22,7 +22,7 @@ pub fn network_byte(s: Bulletin, b: u8, host: &mut [u8], wire: &mut [u8]) -> Ans
 }
 
 pub fn ask(s: Bulletin, option: u8, way: u8, wire: &mut [u8]) -> Answer
-    ensures { λ r. ⌜ MetOnWire (askCall (viewBulletin s) option way (length (now (wire .entry)))) s (now (wire .entry)) (now (wire .exit)) r ⌝ }
+    ensures { λ r. ⌜ RefinesAnswerOnWire (askCall (viewBulletin s) option way) s (lent wire) r ⌝ }
 {
     let mut record = s;
     let o = bulletin_end::ask(&mut record, option, way, wire);
@@ -36,7 +36,7 @@ pub fn ask(s: Bulletin, option: u8, way: u8, wire: &mut [u8]) -> Answer
 }
 
 pub fn define(s: Bulletin, x: u8, text: &[u8], wire: &mut [u8]) -> Answer
-    ensures { λ r. ⌜ MetOnWire (defineCall (viewBulletin s) x (now (text .entry)) (length (now (wire .entry)))) s (now (wire .entry)) (now (wire .exit)) r ⌝ }
+    ensures { λ r. ⌜ RefinesAnswerOnWire (defineCall (viewBulletin s) x (now (text .entry))) s (lent wire) r ⌝ }
 {
     let mut record = s;
     let o = bulletin_end::define(&mut record, x, text, wire);
@@ -50,7 +50,7 @@ pub fn define(s: Bulletin, x: u8, text: &[u8], wire: &mut [u8]) -> Answer
 }
 
 pub fn use_macro(s: Bulletin, x: u8, wire: &mut [u8]) -> Answer
-    ensures { λ r. ⌜ MetOnWire (useCall (viewBulletin s) x (length (now (wire .entry)))) s (now (wire .entry)) (now (wire .exit)) r ⌝ }
+    ensures { λ r. ⌜ RefinesAnswerOnWire (useCall (viewBulletin s) x) s (lent wire) r ⌝ }
 {
     let mut record = s;
     let o = bulletin_end::use_macro(&mut record, x, wire);
@@ -64,7 +64,7 @@ pub fn use_macro(s: Bulletin, x: u8, wire: &mut [u8]) -> Answer
 }
 
 pub fn text_item(s: Bulletin, k: Key, wire: &mut [u8]) -> Answer
-    ensures { λ r. ⌜ MetOnWire (textCall (viewBulletin s) k (length (now (wire .entry)))) s (now (wire .entry)) (now (wire .exit)) r ⌝ }
+    ensures { λ r. ⌜ RefinesAnswerOnWire (textCall (viewBulletin s) k) s (lent wire) r ⌝ }
 {
     let mut record = s;
     let o = bulletin_end::text_item(&mut record, k, wire);

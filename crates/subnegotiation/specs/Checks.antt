@@ -1,9 +1,8 @@
 -- The checks on a body before its shape, in their order: marred or empty, another option, not in force.
-use mathlib.Core.Bool.{Bool, true, false, _&&_}
+use mathlib.Core.Bool.{Bool, true, false, _&&_, cond}
 use mathlib.Core.List.{List}
 use Prim.Native.Nat.{ℕ}
 use lib.Dec.{eqb}
-use Rattle.lists.specs.Choice.{pick}
 use Rattle.codes.specs.Telnet.{RCTE, NAOCRD, BM}
 use Rattle.codes.specs.declared.Note.the-variants.{Unreadable, Inactive, OtherOption}
 use Rattle.negotiation.specs.declared.End.{End}
@@ -21,14 +20,14 @@ readsRcte Printer = true
 readsRcte Bulletin = false
 
 abbrev pub inForce : Bool → Checked → Checked
-inForce on c = pick on c (Noted Inactive)
+inForce on c = cond on c (Noted Inactive)
 
 -- of a body neither marred nor empty: first its option, then whether that is in force
 unfoldable pub optionChecked : End → Sides → ℕ → Checked
 optionChecked end s option =
-    pick (eqb option RCTE && readsRcte end) (inForce (isYes (s .rcte)) Rcte)
-    (pick (eqb option NAOCRD) (inForce (isYes (s .naocrd)) Returns)
-    (pick (eqb option BM) (inForce (macrosInForce end s) Macro)
+    cond (eqb option RCTE && readsRcte end) (inForce (isYes (s .rcte)) Rcte)
+    (cond (eqb option NAOCRD) (inForce (isYes (s .naocrd)) Returns)
+    (cond (eqb option BM) (inForce (macrosInForce end s) Macro)
     (Noted OtherOption)))
 
 unfoldable pub checked : End → Sides → Bool → List ℕ → Checked

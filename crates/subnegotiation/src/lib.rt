@@ -1,6 +1,6 @@
 // A subnegotiation's body as an end takes it up: the checks before its shape, in their order.
 ghost use mathlib.Core.Path.{_≡_};
-ghost use Rattle.reader.specs.Kept.{viewReader};
+ghost use Rattle.reader.specs.Refinement.{viewReader};
 ghost use Rattle.subnegotiation.specs.Checks.{readsRcte, inForce, optionChecked, checked};
 use codes::BM;
 use codes::NAOCRD;

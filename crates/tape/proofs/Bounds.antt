@@ -3,10 +3,10 @@ use mathlib.Core.List.{List, [], _∷_}
 use Prim.Native.Nat.{ℕ, _+_, _*_, _≤_}
 use native.Mathlib.Omega.{arith}
 use lib.ListN.{length, length-append}
-use Rattle.lists.proofs.Lengths.{either, joined-within}
+use Rattle.lists.proofs.Lengths.{either, flatMap-within}
 use Rattle.codes.specs.Answers.{paperRoom, wireRoom}
-use Rattle.tape.specs.Lines.{hexByte, hexOf, isQuiet, shown}
-use Rattle.tape.specs.Parts.{numberThen, hexThen}
+use Rattle.tape.specs.Lines.{hexByte, hexOf, showsNothing, shown}
+use Rattle.tape.specs.Refinement.Parts.{numberThen, hexThen}
 use Rattle.tape.specs.Whole.{lineRoom, LineFits, ShownFits, BadFits}
 use Rattle.tape.proofs.Digits.{at-most}
 use Rattle.tape.proofs.LineParts.{line-parts, bad-parts}
@@ -23,7 +23,7 @@ hex-two b = omega arith
 hex-length : (bytes : List ℕ) (room : ℕ) → length bytes ≤ room → 1 ≤ room → length (hexOf bytes) ≤ 2 * room
 hex-length [] room h some = omega arith
 hex-length (b ∷ bytes) room h some =
-    simp length-append (omega (arith, hex-two b, joined-within hexByte 2 hex-two bytes))
+    simp length-append (omega (arith, hex-two b, flatMap-within hexByte 2 hex-two bytes))
 
 then-length : (bytes : List ℕ) (then room : ℕ) → length bytes ≤ room → 1 ≤ room → length (hexThen bytes then) ≤ 2 * room + 1
 unfolding hexThen
@@ -38,7 +38,7 @@ line-fits field item code paper wire p w =
 pub shown-fits : ShownFits
 unfolding shown
 shown-fits field item code paper wire p w =
-    either (λ (l : List ℕ). length l ≤ lineRoom) (isQuiet code paper wire) (omega arith) (line-fits field item code paper wire p w)
+    either (λ (l : List ℕ). length l ≤ lineRoom) (showsNothing code paper wire) (omega arith) (line-fits field item code paper wire p w)
 
 pub bad-fits : BadFits
 bad-fits n = rw (bad-parts n) (omega (arith, number-length n 10))

@@ -3,7 +3,7 @@ use Prim.Native.Nat.{ℕ, _≤_}
 use native.Mathlib.Omega.{arith}
 use lib.ListN.{length}
 use Rattle.codes.specs.Answers.{codeNumber}
-use Rattle.printer.specs.State.{Printer}
+use Rattle.printer.specs.State.{PrinterState}
 use Rattle.printer.specs.Session.{network, key, ask, called}
 use Rattle.printer.specs.Limits.{Sized, Fits}
 use Rattle.printer.proofs.Limits.{call-fits}
@@ -15,14 +15,14 @@ use Rattle.tape.specs.Running.{pairOf, typedCall, itemCall}
 use Rattle.tape.specs.Whole.{lineRoom}
 use Rattle.tape.proofs.Bounds.{shown-fits}
 
-module _ (s : Printer) (paper wire : ℕ) where
+module _ (s : PrinterState) (paper wire : ℕ) where
   module _ (z : Sized s) where
-    typed-fits : (p : Pair) → Fits (typedCall s p paper wire .did)
+    typed-fits : (p : Pair) → Fits (typedCall s p paper wire .effect)
     unfolding called
     typed-fits (Typed k) = call-fits s (key k paper wire) z
     typed-fits Other = record { paper = omega arith; wire = omega arith }
 
-    pub item-fits : (i : Item) → Fits (itemCall s i paper wire .did)
+    pub item-fits : (i : Item) → Fits (itemCall s i paper wire .effect)
     unfolding called
     item-fits (networkByte b) = call-fits s (network b paper wire) z
     item-fits (keyPair kind v) = typed-fits (pairOf kind v)
@@ -31,4 +31,4 @@ module _ (s : Printer) (paper wire : ℕ) where
     pub line-room : (field item : ℕ) (i : Item) → length (answerLine field item (itemCall s i paper wire)) ≤ lineRoom
     line-room field item i =
         let a = itemCall s i paper wire in
-        shown-fits field item (codeNumber (a .code)) (a .did .paper) (a .did .wire) (item-fits i .paper) (item-fits i .wire)
+        shown-fits field item (codeNumber (a .code)) (a .effect .paper) (a .effect .wire) (item-fits i .paper) (item-fits i .wire)

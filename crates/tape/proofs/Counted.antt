@@ -1,8 +1,9 @@
 -- Every field takes up bytes, so that a tape's length bounds how many there are.
-use mathlib.Core.Path.{_≡_, refl, ap}
-use mathlib.Core.List.{List, _++_}
+use mathlib.Core.Path.{_≡_, refl, sym, ap, _∙_}
+use mathlib.Core.List.{List, _∷_}
 use Prim.Native.Nat.{ℕ, zero, suc, _+_, _≤_, _<_}
-use native.Mathlib.Nat.{zero-add, suc-add}
+use native.Mathlib.Nat.{suc-add}
+use native.Mathlib.Numerals.{add-one}
 use native.Mathlib.Omega.{arith}
 use lib.Dec.{leb}
 use lib.ListN.{length}
@@ -10,8 +11,7 @@ use mathlib.Core.Bool.{_&&_}
 use Rattle.lists.proofs.Lengths.{either}
 use Rattle.tape.specs.declared.Found.{Found}
 use Rattle.tape.specs.declared.Found.the-variants.{Field, End, Bad}
-use Rattle.tape.specs.Fields.{tagAt, sizeAt, isKnown, isWhole, foundAt, itemsOf, partOf}
-use Rattle.tape.specs.Running.{Run, itemsRun, fieldRun, fieldsRun}
+use Rattle.tape.specs.Fields.{tagAt, sizeAt, isKnown, isWhole, foundAt, partOf, Scanned, fieldThen, fieldsFrom, fieldsAt}
 use Rattle.tape.specs.Whole.{NoFieldLeftOut}
 use Rattle.tape.proofs.Heads.{at-end}
 
@@ -27,26 +27,23 @@ goes-on tape at =
     either (Past at) (leb (length tape) at) tt
     (either (Past at) (isWhole tape at && isKnown (tagAt tape at) (sizeAt tape at)) (omega arith) tt)
 
--- what is printed behind a field is all that the count reaches
-same-behind : (tape : List ℕ) (field : ℕ) (r : Run) (at : ℕ) (f : Found) (next other : ℕ → Run → List ℕ) → Past at f
-    → ((place : ℕ) (left : Run) → at < place → next place left ≡ other place left) → fieldRun tape field r f next ≡ fieldRun tape field r f other
-same-behind tape field r at End next other p same = refl
-same-behind tape field r at Bad next other p same = refl
-same-behind tape field r at (Field tag start size cursor) next other p same =
-    let ran = itemsRun field 1 r (itemsOf tag (partOf tape start size)) in
-    ap (λ (l : List ℕ). ran .lines ++ l) (same (cursor .at) (ran .run) p)
+same-behind : (tape : List ℕ) (at : ℕ) (f : Found) (next other : ℕ → List Scanned) → Past at f
+    → ((place : ℕ) → at < place → next place ≡ other place) → fieldThen tape f next ≡ fieldThen tape f other
+same-behind tape at End next other p same = refl
+same-behind tape at Bad next other p same = refl
+same-behind tape at (Field tag start size cursor) next other p same =
+    ap (λ (ss : List Scanned). record { found = Field tag start size cursor; body = partOf tape start size } ∷ ss) (same (cursor .at) p)
 
-past-end : (n : ℕ) (tape : List ℕ) (at field : ℕ) (r : Run) → length tape ≤ at → fieldsRun n tape at field r ≡ fieldsRun 0 tape at field r
-unfolding fieldsRun
-past-end zero tape at field r h = refl
-past-end (suc n) tape at field r h = rw (at-end tape at h)
-
-pub enough : (n more : ℕ) (tape : List ℕ) (at field : ℕ) (r : Run) → length tape ≤ at + n → fieldsRun (n + more) tape at field r ≡ fieldsRun n tape at field r
-unfolding fieldsRun
-enough zero more tape at field r h = rw (zero-add more) (past-end more tape at field r (omega arith))
-enough (suc n) more tape at field r h =
-    rw (suc-add n more)
-    (same-behind tape field r at (foundAt tape at) _ _ (goes-on tape at) (λ place left lt. enough n more tape place (field + 1) left (omega arith)))
+enough : (n more : ℕ) (tape : List ℕ) (at : ℕ) → length tape ≤ at + n → fieldsFrom (suc n + more) tape at ≡ fieldsFrom (suc n) tape at
+unfolding fieldsFrom
+enough zero more tape at h = rw (suc-add zero more, at-end tape at (omega arith))
+enough (suc n) more tape at h =
+    rw (suc-add (suc n) more) (same-behind tape at (foundAt tape at) _ _ (goes-on tape at) (λ place lt. enough n more tape place (omega arith)))
 
 pub no-field-left-out : NoFieldLeftOut
-no-field-left-out tape more r = enough (length tape) more tape 0 1 r (omega arith)
+no-field-left-out tape more = enough (length tape) more tape 0 (omega arith)
+
+-- so that the count is the same for every field
+pub field-first : (tape : List ℕ) (at : ℕ) → fieldsAt tape at ≡ fieldThen tape (foundAt tape at) (λ next. fieldsAt tape next)
+unfolding fieldsFrom
+field-first tape at = sym (enough (length tape) 1 tape at (omega arith)) ∙ (rw (add-one (suc (length tape))))

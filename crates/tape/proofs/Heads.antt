@@ -1,13 +1,12 @@
 -- What stands at a place of a tape, by the tests that tell.
 use mathlib.Core.Path.{_≡_, refl}
-use mathlib.Core.Bool.{Bool, true, false}
+use mathlib.Core.Bool.{Bool, true, false, cond}
 use mathlib.Core.List.{List}
 use Prim.Native.Nat.{ℕ, _+_, _-_, _%_, _≤_, _<_}
 use native.Mathlib.Omega.{arith}
 use borrow.Author.Tests.{eqb-true, eqb-false, le-leb, lt-leb, ne-eqb}
 use lib.Dec.{eqb}
 use lib.ListN.{length}
-use Rattle.lists.specs.Choice.{pick}
 use Rattle.tape.specs.declared.Found.the-variants.{Field, End, Bad}
 use Rattle.tape.specs.Fields.{headSize, tagAt, sizeAt, isKnown, foundAt}
 
@@ -51,7 +50,7 @@ module _ (tape : List ℕ) (at : ℕ) where
 
       -- a whole field is found where its tag and size are known
       pub whole : (b : Bool) → b ≡ isKnown (tagAt tape at) size → size ≤ length tape - (at + headSize)
-          → foundAt tape at ≡ pick b (Field (tagAt tape at) (at + headSize) size (record { at = at + headSize + size })) Bad
+          → foundAt tape at ≡ cond b (Field (tagAt tape at) (at + headSize) size (record { at = at + headSize + size })) Bad
       unfolding foundAt
       whole b known h =
           rw (lt-leb (length tape) at inside, le-leb (at + headSize) (length tape) head, ← named, le-leb size (length tape - (at + headSize)) h, ← known)

@@ -12,3 +12,4 @@ pub mod Machines
 pub mod Runs
 pub mod Readers
 pub mod Scanned
+pub mod LentSession

@@ -1,19 +1,18 @@
 -- Many steps: their number does not matter, once it bounds what is ahead.
 use mathlib.Core.Path.{_≡_, refl, sym, ap, _∙_}
-use mathlib.Core.Bool.{Bool, true, false, not}
+use mathlib.Core.Bool.{Bool, true, false, not, cond}
 use mathlib.Core.List.{List, [], _++_, append-assoc, append-nil}
 use Prim.Native.Nat.{ℕ, zero, suc, _+_, _-_, _≤_, _<_}
 use native.Mathlib.Omega.{arith}
 use borrow.Author.Tests.{leb-false, le-leb, not-true}
 use lib.Dec.{leb}
 use lib.ListN.{length, length-append}
-use Rattle.lists.specs.Choice.{pick}
 use Rattle.lists.proofs.Lengths.{chosen}
 use Rattle.lists.proofs.Tables.{both-left}
 use Rattle.tape.specs.declared.Place.{Place}
-use Rattle.tape.specs.Running.{printed}
-use Rattle.tape.specs.Steps.{At, Going, isOver, stepped, start, remaining, ahead}
-use Rattle.tape.specs.ManySteps.{goesOn, stays, behind, stepsFor, ranFor, RanPrints, RanStops, RanFalls, RanWhole}
+use Rattle.tape.specs.Running.{tapeOutput}
+use Rattle.tape.specs.Refinement.Steps.{At, Progress, isOver, stepped, start, remaining, ahead}
+use Rattle.tape.specs.Refinement.ManySteps.{goesOn, stays, linesFirst, stepsFor, ranFor, RanPrints, RanStops, RanFalls, RanWhole}
 use Rattle.tape.specs.Whole.{lineRoom}
 use Rattle.tape.proofs.Steps.{step-prints, step-falls, start-prints}
 
@@ -21,7 +20,7 @@ over-then : (tape : List ℕ) (p : Place) → ahead tape p ≤ 0 → isOver p �
 unfolding ahead
 over-then tape p h = go (isOver p) h
   where
-    go : (b : Bool) → pick b 0 (1 + (length tape - p .next) + p .left) ≤ 0 → b ≡ true
+    go : (b : Bool) → cond b 0 (1 + (length tape - p .next) + p .left) ≤ 0 → b ≡ true
     go true h = refl
     go false h = absurd (omega arith)
 
@@ -35,8 +34,8 @@ module _ (tape : List ℕ) where
   falls-on : (a : At) (room n : ℕ) → goesOn a room ≡ true → ahead tape (a .place) ≤ suc n → ahead tape (stepped tape a .at .place) ≤ n
   falls-on a room n e h = omega (arith, step-falls tape a (going-then a room e))
 
-  same-behind : (b : Bool) (lines : List ℕ) (g h s : Going) → (b ≡ true → g ≡ h) → pick b (behind lines g) s ≡ pick b (behind lines h) s
-  same-behind true lines g h s e = ap (behind lines) (e refl)
+  same-behind : (b : Bool) (lines : List ℕ) (g h s : Progress) → (b ≡ true → g ≡ h) → cond b (linesFirst lines g) s ≡ cond b (linesFirst lines h) s
+  same-behind true lines g h s e = ap (linesFirst lines) (e refl)
   same-behind false lines g h s e = refl
 
   same-steps : (n m : ℕ) (a : At) (room : ℕ) → ahead tape (a .place) ≤ n → ahead tape (a .place) ≤ m → stepsFor n tape a room ≡ stepsFor m tape a room
@@ -51,7 +50,7 @@ module _ (tape : List ℕ) where
 
   unrolled : (a : At) (room : ℕ)
       → ranFor tape a room
-      ≡ pick (goesOn a room) (behind (stepped tape a .lines) (stepsFor (ahead tape (a .place)) tape (stepped tape a .at) (room - length (stepped tape a .lines)))) (stays a)
+      ≡ cond (goesOn a room) (linesFirst (stepped tape a .lines) (stepsFor (ahead tape (a .place)) tape (stepped tape a .at) (room - length (stepped tape a .lines)))) (stays a)
   unfolding ranFor stepsFor
   unrolled a room = same-steps (ahead tape (a .place)) (suc (ahead tape (a .place))) a room (omega arith) (omega arith)
 
@@ -60,18 +59,18 @@ module _ (tape : List ℕ) where
   ran-stops a room e = unrolled a room ∙ rw e
 
   pub ran-next : (a : At) (room : ℕ) → goesOn a room ≡ true
-      → ranFor tape a room ≡ behind (stepped tape a .lines) (ranFor tape (stepped tape a .at) (room - length (stepped tape a .lines)))
+      → ranFor tape a room ≡ linesFirst (stepped tape a .lines) (ranFor tape (stepped tape a .at) (room - length (stepped tape a .lines)))
   unfolding ranFor
   ran-next a room e =
       unrolled a room
       ∙ (rw e
-      (ap (behind (stepped tape a .lines))
+      (ap (linesFirst (stepped tape a .lines))
       (same-steps (ahead tape (a .place)) (ahead tape (stepped tape a .at .place)) (stepped tape a .at) (room - length (stepped tape a .lines))
       (omega (arith, step-falls tape a (going-then a room e))) (omega arith))))
 
   -- what holds where a run stops, and of a step in front of a run where it holds of the run, holds of every run
-  induct : (P : At → ℕ → Going → Type 0) → ((a : At) (room : ℕ) → goesOn a room ≡ false → P a room (stays a))
-      → ((a : At) (room : ℕ) (g : Going) → goesOn a room ≡ true → P (stepped tape a .at) (room - length (stepped tape a .lines)) g → P a room (behind (stepped tape a .lines) g))
+  induct : (P : At → ℕ → Progress → Type 0) → ((a : At) (room : ℕ) → goesOn a room ≡ false → P a room (stays a))
+      → ((a : At) (room : ℕ) (g : Progress) → goesOn a room ≡ true → P (stepped tape a .at) (room - length (stepped tape a .lines)) g → P a room (linesFirst (stepped tape a .lines) g))
       → (n : ℕ) (a : At) (room : ℕ) → ahead tape (a .place) ≤ n → P a room (stepsFor n tape a room)
   unfolding stepsFor
   induct P stop next zero a room h = stop a room (over-stays a room (over-then tape (a .place) h))
@@ -79,8 +78,8 @@ module _ (tape : List ℕ) where
       let g = stepped tape a in
       chosen (P a room) (goesOn a room) (λ e. next a room _ e (induct P stop next n (g .at) (room - length (g .lines)) (falls-on a room n e h))) (λ e. stop a room e)
 
-  pub every-run : (P : At → ℕ → Going → Type 0) → ((a : At) (room : ℕ) → goesOn a room ≡ false → P a room (stays a))
-      → ((a : At) (room : ℕ) (g : Going) → goesOn a room ≡ true → P (stepped tape a .at) (room - length (stepped tape a .lines)) g → P a room (behind (stepped tape a .lines) g))
+  pub every-run : (P : At → ℕ → Progress → Type 0) → ((a : At) (room : ℕ) → goesOn a room ≡ false → P a room (stays a))
+      → ((a : At) (room : ℕ) (g : Progress) → goesOn a room ≡ true → P (stepped tape a .at) (room - length (stepped tape a .lines)) g → P a room (linesFirst (stepped tape a .lines) g))
       → (a : At) (room : ℕ) → P a room (ranFor tape a room)
   unfolding ranFor
   every-run P stop next a room = induct P stop next (ahead tape (a .place)) a room (omega arith)
@@ -115,16 +114,16 @@ pub ran-whole : RanWhole
 unfolding remaining
 ran-whole tape room fits = go (isOver (r .at .place)) refl
   where
-    r : Going
+    r : Progress
     r = ranFor tape start room
 
-    all : printed tape ≡ r .lines ++ remaining tape (r .at)
+    all : tapeOutput tape ≡ r .lines ++ remaining tape (r .at)
     all = start-prints tape ∙ ran-prints tape start room
 
-    long : length (printed tape) ≡ length (r .lines) + length (remaining tape (r .at))
+    long : length (tapeOutput tape) ≡ length (r .lines) + length (remaining tape (r .at))
     long = ap length all ∙ length-append (r .lines) (remaining tape (r .at))
 
-    go : (b : Bool) → isOver (r .at .place) ≡ b → r .lines ≡ printed tape
+    go : (b : Bool) → isOver (r .at .place) ≡ b → r .lines ≡ tapeOutput tape
     go true over =
         let none : remaining tape (r .at) ≡ [] = rw over in
         sym (all ∙ (rw none (append-nil (r .lines))))

@@ -9,7 +9,7 @@ use Rattle.lists.proofs.Lengths.{chosen, either}
 use Rattle.tape.specs.declared.Found.{Found}
 use Rattle.tape.specs.declared.Found.the-variants.{Field, End, Bad}
 use Rattle.tape.specs.Fields.{foundAt}
-use Rattle.tape.specs.Steps.{width, At, Going, isOver, isTooLong, restAt, pastItem, fieldStep, goingStep, stepped}
+use Rattle.tape.specs.Refinement.Steps.{width, At, Progress, isOver, isTooLong, restAt, pastItem, fieldStep, nextStep, stepped}
 use Rattle.tape.specs.Numbers.{Within, StartWithin, StepWithin, NumbersRead}
 use Rattle.tape.proofs.Digits.{decimal-reads}
 use Rattle.tape.proofs.Steps.{Inside, found-inside, some-width, part-long}
@@ -35,9 +35,9 @@ module _ (tape : List ℕ) (a : At) (w : Within tape (a .place)) where
       record { fields = w .fields; next = w .next; items = omega (arith, w .items, some); at = part-long tape (p .at) (p .left) (width (p .tag)) some h .1 }
 
   stays : Within tape (stepped tape a .at .place)
-  unfolding stepped goingStep
+  unfolding stepped nextStep
   stays =
-      let inside : Going → Type 0 = λ g. Within tape (g .at .place) in
+      let inside : Progress → Type 0 = λ g. Within tape (g .at .place) in
       let rest = restAt tape (a .place) in
       either inside (isOver (a .place)) w
       (either inside (isTooLong tape (a .place)) (field-within End tt)

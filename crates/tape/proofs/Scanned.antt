@@ -1,26 +1,25 @@
 -- A reader gives a tape's fields, and stays within the tape.
 use mathlib.Core.Path.{_≡_, refl, sym, ap, _∙_}
-use mathlib.Core.Bool.{Bool, true, false, _&&_, false≢true}
-use mathlib.Core.List.{List, [], _∷_, _++_}
+use mathlib.Core.Bool.{Bool, true, false, _&&_, false≢true, cond}
+use mathlib.Core.List.{List, [], _∷_}
 use Prim.Native.Nat.{ℕ, zero, suc, _+_, _≤_, _<_}
 use native.Mathlib.Omega.{arith}
 use borrow.Author.Tests.{le-ltb}
 use denote.Ref.{RefT, now}
 use lib.Dec.{leb}
 use lib.ListN.{length, length-take, length-drop}
-use Rattle.lists.specs.Choice.{pick}
 use Rattle.lists.proofs.Lengths.{either}
 use Rattle.tape.specs.declared.Found.{Found}
 use Rattle.tape.specs.declared.Found.the-variants.{Field, End, Bad}
 use Rattle.tape.specs.declared.TapeReader.{TapeReader}
-use Rattle.tape.specs.Fields.{headSize, tagAt, sizeAt, isKnown, isWhole, foundAt, partOf, bodyOf, bodyAt, itemsOf}
-use Rattle.tape.specs.Running.{Run, begun, itemsRun, fieldRun, fieldsRun, tapeRoom, printed}
-use Rattle.tape.specs.Scanning.{placeAfter, readerAt, foundBy, readerAfter, Scanned, isField, scannedBy, fieldThen, fieldsFrom, scannedLines, afterCalls, ReaderGivesFields, ReaderPrints, ReaderWithin, ReaderMoves, ReaderStops, BodyWhole}
+use Rattle.tape.specs.Fields.{headSize, tagAt, sizeAt, isKnown, isWhole, foundAt, partOf, bodyOf, bodyAt, Scanned, fieldThen, fieldsFrom}
+use Rattle.tape.specs.Running.{tapeRoom, tapeOutput}
+use Rattle.tape.specs.Scanning.{placeAfter, readerAt, foundBy, readerAfter, isField, scannedBy, afterCalls, ReaderGivesFields, ReaderPrints, ReaderWithin, ReaderMoves, ReaderStops, BodyWhole}
 use Rattle.tape.proofs.Heads.{at-end}
 use Rattle.tape.proofs.Steps.{Inside, found-inside}
 
 given-then : (n : ℕ) (tape : RefT (List ℕ)) (at : ℕ) (f : Found) → ((next : ℕ) → scannedBy n (readerAt tape next) ≡ fieldsFrom n (now tape) next)
-    → _≡_ {A = List Scanned} (record { found = f; body = bodyOf (now tape) f } ∷ pick (isField f) (scannedBy n (readerAt tape (placeAfter f at))) [])
+    → _≡_ {A = List Scanned} (record { found = f; body = bodyOf (now tape) f } ∷ cond (isField f) (scannedBy n (readerAt tape (placeAfter f at))) [])
     (fieldThen (now tape) f (λ next. fieldsFrom n (now tape) next))
 given-then n tape at End same = refl
 given-then n tape at Bad same = refl
@@ -32,25 +31,9 @@ unfolding scannedBy fieldsFrom bodyAt
 reader-gives-fields zero tape at = refl
 reader-gives-fields (suc n) tape at = given-then n tape at (foundAt (now tape) at) (λ next. reader-gives-fields n tape next)
 
-lines-then : (n : ℕ) (tape : List ℕ) (field : ℕ) (r : Run) (f : Found) → ((next : ℕ) (r′ : Run) → fieldsRun n tape next (field + 1) r′ ≡ scannedLines (field + 1) r′ (fieldsFrom n tape next))
-    → fieldRun tape field r f (λ next r′. fieldsRun n tape next (field + 1) r′) ≡ scannedLines field r (fieldThen tape f (λ next. fieldsFrom n tape next))
-unfolding scannedLines
-lines-then n tape field r End same = refl
-lines-then n tape field r Bad same = refl
-lines-then n tape field r (Field tag start size cursor) same =
-    let ran = itemsRun field 1 r (itemsOf tag (partOf tape start size)) in
-    ap (λ (l : List ℕ). ran .lines ++ l) (same (cursor .at) (ran .run))
-
-fields-print : (n : ℕ) (tape : List ℕ) (at field : ℕ) (r : Run) → fieldsRun n tape at field r ≡ scannedLines field r (fieldsFrom n tape at)
-unfolding fieldsRun fieldsFrom scannedLines
-fields-print zero tape at field r = refl
-fields-print (suc n) tape at field r = lines-then n tape field r (foundAt tape at) (λ next r′. fields-print n tape next (field + 1) r′)
-
 pub reader-prints : ReaderPrints
-unfolding printed
-reader-prints tape short =
-    rw (le-ltb tapeRoom (length (now tape)) short, reader-gives-fields (length (now tape)) tape 0)
-    (fields-print (length (now tape)) (now tape) 0 1 begun)
+unfolding tapeOutput
+reader-prints tape short = rw (le-ltb tapeRoom (length (now tape)) short, reader-gives-fields (suc (length (now tape))) tape 0)
 
 -- one call
 stays-within : (tape : List ℕ) (at : ℕ) (f : Found) → Inside tape at f → at ≤ length tape → placeAfter f at ≤ length tape

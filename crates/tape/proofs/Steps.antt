@@ -1,25 +1,23 @@
 -- A step prints what comes next of what remains, and something less is ahead after it.
-use mathlib.Core.Path.{_≡_, refl, sym, _∙_}
-use mathlib.Core.Bool.{Bool, true, false, _&&_, _||_, false≢true}
+use mathlib.Core.Path.{_≡_, refl, sym, ap, _∙_}
+use mathlib.Core.Bool.{Bool, true, false, _&&_, _||_, false≢true, cond}
 use mathlib.Core.List.{List, [], _∷_, _++_, append-assoc, append-nil, map}
 use Prim.Native.Nat.{ℕ, zero, suc, _+_, _-_, _≤_, _<_}
-use native.Mathlib.Numerals.{add-one}
 use native.Mathlib.Omega.{arith}
 use borrow.Author.Tests.{ltb-true, ltb-false, leb-true, leb-false, le-ltb, ne-eqb}
 use lib.Dec.{ltb, leb, eqb}
 use lib.ListN.{length, take, drop, getD, length-take, length-drop}
 use lib.Seq.{take-nil, drop-drop}
-use Rattle.lists.specs.Choice.{pick}
 use Rattle.lists.proofs.Lengths.{chosen, either}
 use Rattle.lists.proofs.Tables.{both-left, both-right}
 use Rattle.tape.specs.declared.Found.{Found}
 use Rattle.tape.specs.declared.Found.the-variants.{Field, End, Bad}
 use Rattle.tape.specs.declared.Place.{Place}
-use Rattle.tape.specs.Fields.{Item, networkByte, keyPair, askPair, headSize, tagAt, sizeAt, isKnown, isWhole, foundAt, partOf, pairs, itemsOf}
+use Rattle.tape.specs.Fields.{headSize, tagAt, sizeAt, isKnown, isWhole, foundAt, partOf, Scanned, fieldThen, fieldsAt, Item, pairs, itemOf, itemsOf}
 use Rattle.tape.specs.Lines.{answerLine, badTape}
-use Rattle.tape.specs.Running.{Run, lentFor, itemAnswer, afterItem, itemsRun, fieldRun, fieldsRun, printed}
-use Rattle.tape.specs.Steps.{width, itemOf, At, isOver, isTooLong, restAt, goingOn, remaining, Going, ended, pastItem, itemStep, fieldStep, goingStep, goes, stepped, StartPrints, StepPrints, ahead, StepFalls}
-use Rattle.tape.proofs.Counted.{enough}
+use Rattle.tape.specs.Running.{withRoom, itemAnswer, afterItem, itemsRun, fieldsRun, tapeOutput}
+use Rattle.tape.specs.Refinement.Steps.{width, At, isOver, isTooLong, restAt, linesLeft, remaining, Progress, atTapeEnd, pastItem, itemStep, fieldStep, nextStep, goes, stepped, StartPrints, StepPrints, ahead, StepFalls}
+use Rattle.tape.proofs.Counted.{field-first}
 
 -- a place where a run is not over
 pub record Stands (p : Place) : Type 0 where
@@ -66,12 +64,6 @@ found-inside tape at =
     record { begins = refl; ends = refl; inside = omega arith })
     (λ _. inside))
 
--- no field is left out, so that the count is the same for every field
-pub later : (tape : List ℕ) (at field : ℕ) (r : Run)
-    → fieldsRun (length tape) tape at field r ≡ fieldRun tape field r (foundAt tape at) (λ next r′. fieldsRun (length tape) tape next (field + 1) r′)
-unfolding fieldsRun
-later tape at field r = sym (enough (length tape) 1 tape at field r (omega arith)) ∙ (rw (add-one (length tape)))
-
 -- the first item of a body, and what is left behind it
 pairs-next : (f : ℕ → ℕ → Item) (body : List ℕ) → 2 ≤ length body → pairs f body ≡ f (getD body 0 0) (getD body 1 0) ∷ pairs f (drop 2 body)
 unfolding pairs
@@ -79,9 +71,9 @@ pairs-next f [] h = absurd (omega arith)
 pairs-next f (a ∷ []) h = absurd (omega arith)
 pairs-next f (a ∷ b ∷ body) h = refl
 
-bytes-next : (body : List ℕ) → 1 ≤ length body → map networkByte body ≡ networkByte (getD body 0 0) ∷ map networkByte (drop 1 body)
-bytes-next [] h = absurd (omega arith)
-bytes-next (a ∷ body) h = refl
+bytes-next : (f : ℕ → Item) (body : List ℕ) → 1 ≤ length body → map f body ≡ f (getD body 0 0) ∷ map f (drop 1 body)
+bytes-next f [] h = absurd (omega arith)
+bytes-next f (a ∷ body) h = refl
 
 pairs-none : (f : ℕ → ℕ → Item) (body : List ℕ) → length body < 2 → pairs f body ≡ []
 unfolding pairs
@@ -89,31 +81,36 @@ pairs-none f [] h = refl
 pairs-none f (a ∷ []) h = refl
 pairs-none f (a ∷ b ∷ body) h = absurd (omega arith)
 
-bytes-none : (body : List ℕ) → length body < 1 → map networkByte body ≡ []
-bytes-none [] h = refl
-bytes-none (a ∷ body) h = absurd (omega arith)
+bytes-none : (f : ℕ → Item) (body : List ℕ) → length body < 1 → map f body ≡ []
+bytes-none f [] h = refl
+bytes-none f (a ∷ body) h = absurd (omega arith)
 
 items-none : (tag : ℕ) (body : List ℕ) → length body < width tag → itemsOf tag body ≡ []
 unfolding itemsOf
-items-none tag body h = go (eqb tag 1) (eqb tag 2) h
+items-none tag body h = go (eqb tag 1) h
   where
-    go : (a b : Bool) → length body < pick a 1 2 → pick a (map networkByte body) (pick b (pairs keyPair body) (pairs askPair body)) ≡ []
-    go true b h = bytes-none body h
-    go false true h = pairs-none keyPair body h
-    go false false h = pairs-none askPair body h
+    go : (b : Bool) → length body < cond b 1 2 → cond b (map (λ a. itemOf tag a 0) body) (pairs (itemOf tag) body) ≡ []
+    go true h = bytes-none (λ a. itemOf tag a 0) body h
+    go false h = pairs-none (itemOf tag) body h
+
+-- a network byte is the first of two bytes
+first-alone : (tag a b : ℕ) → eqb tag 1 ≡ true → itemOf tag a 0 ≡ itemOf tag a b
+unfolding itemOf
+first-alone tag a b e = rw e
 
 items-next : (tag : ℕ) (body : List ℕ) → width tag ≤ length body
     → itemsOf tag body ≡ itemOf tag (getD body 0 0) (getD body 1 0) ∷ itemsOf tag (drop (width tag) body)
-unfolding itemsOf itemOf
-items-next tag body h = go (eqb tag 1) (eqb tag 2) h
+unfolding itemsOf
+items-next tag body h = go (eqb tag 1) refl h
   where
-    go : (a b : Bool) → pick a 1 2 ≤ length body
-        → pick a (map networkByte body) (pick b (pairs keyPair body) (pairs askPair body))
-        ≡ pick a (networkByte (getD body 0 0)) (pick b (keyPair (getD body 0 0) (getD body 1 0)) (askPair (getD body 0 0) (getD body 1 0)))
-        ∷ pick a (map networkByte (drop (pick a 1 2) body)) (pick b (pairs keyPair (drop (pick a 1 2) body)) (pairs askPair (drop (pick a 1 2) body)))
-    go true b h = bytes-next body h
-    go false true h = pairs-next keyPair body h
-    go false false h = pairs-next askPair body h
+    go : (b : Bool) → eqb tag 1 ≡ b → cond b 1 2 ≤ length body
+        → cond b (map (λ a. itemOf tag a 0) body) (pairs (itemOf tag) body)
+        ≡ itemOf tag (getD body 0 0) (getD body 1 0)
+        ∷ cond b (map (λ a. itemOf tag a 0) (drop (cond b 1 2) body)) (pairs (itemOf tag) (drop (cond b 1 2) body))
+    go true e h =
+        bytes-next (λ a. itemOf tag a 0) body h
+        ∙ ap (λ (i : Item). i ∷ map (λ a. itemOf tag a 0) (drop 1 body)) (first-alone tag (getD body 0 0) (getD body 1 0) e)
+    go false e h = pairs-next (itemOf tag) body h
 
 pub some-width : (tag : ℕ) → 1 ≤ width tag
 some-width tag = either (λ (n : ℕ). 1 ≤ n) (eqb tag 1) (omega arith) (omega arith)
@@ -153,42 +150,43 @@ numbered tape p n e = rw (e, ne-eqb (n + 1) 0 (λ z. omega (arith, z)))
 -- the run goes on in the field, or behind it
 module _ (tape : List ℕ) (a : At) where
   from-found : (f : Found) → Inside tape (a .place .next) f → Stands (a .place)
-      → fieldRun tape (a .place .field + 1) (a .run) f (λ next r′. fieldsRun (length tape) tape next (a .place .field + 1 + 1) r′)
-      ≡ fieldStep a f .lines ++ remaining tape (fieldStep a f .at)
-  unfolding remaining isOver
+      → fieldsRun (a .place .field + 1) (a .run) (fieldThen tape f (λ next. fieldsAt tape next)) .lines ≡ fieldStep a f .lines ++ remaining tape (fieldStep a f .at)
+  unfolding fieldsRun remaining isOver
   from-found End i s = refl
-  from-found Bad i s = sym (append-nil (badTape (a .place .field + 1)))
+  from-found Bad i s = refl
   from-found (Field tag begin size cursor) i s =
       let p : Place = record { field = a .place .field + 1; item = 1; tag = tag; at = begin; left = size; next = cursor .at; over = false } in
       rw (not-over p (record { going = refl; field = omega (arith, i .begins, i .ends, s .field); item = omega (arith, i .begins) }), numbered tape p (a .place .field) refl)
 
   from-field : Stands (a .place) → length (restAt tape (a .place)) < width (a .place .tag)
-      → goingOn tape a ≡ fieldStep a (foundAt tape (a .place .next)) .lines ++ remaining tape (fieldStep a (foundAt tape (a .place .next)) .at)
+      → linesLeft tape a ≡ fieldStep a (foundAt tape (a .place .next)) .lines ++ remaining tape (fieldStep a (foundAt tape (a .place .next)) .at)
   unfolding itemsRun
   from-field s h =
+      let next = a .place .next in
       rw (items-none (a .place .tag) (restAt tape (a .place)) h)
-      (later tape (a .place .next) (a .place .field + 1) (a .run) ∙ from-found (foundAt tape (a .place .next)) (found-inside tape (a .place .next)) s)
+      (ap (λ (ss : List Scanned). fieldsRun (a .place .field + 1) (a .run) ss .lines) (field-first tape next)
+      ∙ from-found (foundAt tape next) (found-inside tape next) s)
 
   past-stands : Stands (a .place) → Stands (pastItem (a .place))
   past-stands s = record { going = refl; field = s .field; item = omega (arith, s .item, some-width (a .place .tag)) }
 
   from-item : Stands (a .place) → isTooLong tape (a .place) ≡ false → width (a .place .tag) ≤ length (restAt tape (a .place))
       → (let i = itemOf (a .place .tag) (getD (restAt tape (a .place)) 0 0) (getD (restAt tape (a .place)) 1 0) in
-      goingOn tape a ≡ itemStep a (pastItem (a .place)) i .lines ++ remaining tape (itemStep a (pastItem (a .place)) i .at))
+      linesLeft tape a ≡ itemStep a (pastItem (a .place)) i .lines ++ remaining tape (itemStep a (pastItem (a .place)) i .at))
   unfolding itemsRun remaining
   from-item s short h =
       let p = a .place in
       let i = itemOf (p .tag) (getD (restAt tape p) 0 0) (getD (restAt tape p) 1 0) in
-      let lent = lentFor (a .run) in
+      let lent = withRoom (a .run) in
       let answer = itemAnswer lent i in
       let ran = itemsRun (p .field) (p .item + 1) (afterItem lent answer) (itemsOf (p .tag) (restAt tape (pastItem p))) in
       rw (items-next (a .place .tag) (restAt tape (a .place)) h, part-next tape (a .place .at) (a .place .left) (width (a .place .tag)), not-over (pastItem (a .place)) (past-stands s), short-still tape (a .place) (pastItem (a .place)) refl short)
-      (append-assoc (answerLine (p .field) (p .item) answer) (ran .lines) (fieldsRun (length tape) tape (p .next) (p .field + 1) (ran .run)))
+      (append-assoc (answerLine (p .field) (p .item) answer) (ran .lines) (fieldsRun (p .field + 1) (ran .run) (fieldsAt tape (p .next)) .lines))
 
-  goes-on : Stands (a .place) → isTooLong tape (a .place) ≡ false → goingOn tape a ≡ goingStep tape a .lines ++ remaining tape (goingStep tape a .at)
-  unfolding goingStep
+  goes-on : Stands (a .place) → isTooLong tape (a .place) ≡ false → linesLeft tape a ≡ nextStep tape a .lines ++ remaining tape (nextStep tape a .at)
+  unfolding nextStep
   goes-on s short =
-      chosen (λ (g : Going). goingOn tape a ≡ g .lines ++ remaining tape (g .at)) (ltb (length (restAt tape (a .place))) (width (a .place .tag)))
+      chosen (λ (g : Progress). linesLeft tape a ≡ g .lines ++ remaining tape (g .at)) (ltb (length (restAt tape (a .place))) (width (a .place .tag)))
       (λ e. from-field s (ltb-true (length (restAt tape (a .place))) (width (a .place .tag)) e))
       (λ e. from-item s short (ltb-false (length (restAt tape (a .place))) (width (a .place .tag)) e))
 
@@ -196,13 +194,13 @@ pub step-prints : StepPrints
 unfolding remaining stepped isOver
 step-prints tape a = go (isOver (a .place)) (isTooLong tape (a .place)) refl refl
   where
-    told : Going
-    told = goes (badTape 0) (a .run) (ended (a .place))
+    told : Progress
+    told = goes (badTape 0) (a .run) (atTapeEnd (a .place))
 
     go : (b c : Bool) → isOver (a .place) ≡ b → isTooLong tape (a .place) ≡ c
-        → pick b [] (pick c (badTape 0) (goingOn tape a))
-        ≡ pick b (goes [] (a .run) (a .place)) (pick c told (goingStep tape a)) .lines
-        ++ remaining tape (pick b (goes [] (a .run) (a .place)) (pick c told (goingStep tape a)) .at)
+        → cond b [] (cond c (badTape 0) (linesLeft tape a))
+        ≡ cond b (goes [] (a .run) (a .place)) (cond c told (nextStep tape a)) .lines
+        ++ remaining tape (cond b (goes [] (a .run) (a .place)) (cond c told (nextStep tape a)) .at)
     go true c e f = rw e
     go false true e f = sym (append-nil (badTape 0))
     go false false e f = goes-on tape a (stands (a .place) e) f
@@ -229,11 +227,11 @@ module _ (tape : List ℕ) (a : At) (s : Stands (a .place)) where
       (omega (arith, some-width (a .place .tag), part-long tape (a .place .at) (a .place .left) (width (a .place .tag)) (some-width (a .place .tag)) h .0))
 
 pub step-falls : StepFalls
-unfolding stepped goingStep
+unfolding stepped nextStep
 step-falls tape a e =
     let s = stands (a .place) e in
     let rest = restAt tape (a .place) in
-    let less : Going → Type 0 = λ g. ahead tape (g .at .place) < ahead tape (a .place) in
+    let less : Progress → Type 0 = λ g. ahead tape (g .at .place) < ahead tape (a .place) in
     rw e
     (chosen less (isTooLong tape (a .place)) (λ _. found-falls tape a s End tt)
     (λ _.
@@ -242,5 +240,5 @@ step-falls tape a e =
     (λ f. item-falls tape a s (ltb-false (length rest) (width (a .place .tag)) f))))
 
 pub start-prints : StartPrints
-unfolding printed remaining isOver isTooLong itemsRun itemsOf partOf
+unfolding tapeOutput remaining isOver isTooLong itemsRun itemsOf partOf
 start-prints tape = refl

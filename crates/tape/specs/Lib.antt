@@ -1,10 +1,8 @@
 pub mod Fields
 pub mod Lines
-pub mod Parts
 pub mod Running
+pub mod LentSession
 pub mod Whole
-pub mod Steps
-pub mod ManySteps
 pub mod Numbers
-pub mod Kept
 pub mod Scanning
+pub mod Refinement

@@ -2,19 +2,21 @@
 -- left out.
 use mathlib.Core.Path.{_≡_}
 use mathlib.Core.List.{List, [], _∷_}
-use Prim.Native.Nat.{ℕ, _+_, _*_, _-_, _≤_, _<_}
+use Prim.Native.Nat.{ℕ, suc, _+_, _*_, _-_, _≤_, _<_}
 use lib.ListN.{length}
 use Rattle.codes.specs.Answers.{paperRoom, wireRoom}
 use Rattle.codes.specs.declared.Code.the-variants.{NoRoom}
-use Rattle.tape.specs.Fields.{Item}
+use Rattle.tape.specs.Fields.{Item, fieldsFrom, fieldsAt}
 use Rattle.tape.specs.Lines.{decimal, lineOf, shown, badTape}
-use Rattle.tape.specs.Running.{Run, lentFor, itemAnswer, fieldsRun}
+use Rattle.tape.specs.Running.{TapeRun, withRoom, itemAnswer}
 
 -- the number that digits stand for, behind those of a number read before
 unfoldable pub readOn : ℕ → List ℕ → ℕ
 readOn n [] = n
 readOn n (d ∷ ds) = readOn (10 * n + (d - 48)) ds
 
+-- Assumed: a number under 100,000. Promised: its digits, read as a number, are it. Ruled out: a digit that is lost;
+-- digits in the wrong order.
 abbrev pub DecimalReads : Type 0
 DecimalReads = (n : ℕ) → n < 100000 → readOn 0 (decimal n) ≡ n
 
@@ -22,28 +24,27 @@ DecimalReads = (n : ℕ) → n < 100000 → readOn 0 (decimal n) ≡ n
 abbrev pub lineRoom : ℕ
 lineRoom = 3 * (5 + 1) + (2 * paperRoom + 1) + (2 * wireRoom + 1)
 
+-- Assumed: paper and wire bytes within the sizes of code 1. Promised: a line has at most `lineRoom` bytes. Ruled out:
+-- numbers without a bound; bytes of more than two digits.
 abbrev pub LineFits : Type 0
 LineFits = (field item code : ℕ) (paper wire : List ℕ) → length paper ≤ paperRoom → length wire ≤ wireRoom
     → length (lineOf field item code paper wire) ≤ lineRoom
 
+-- The same of what an item shows: its line, or none.
 abbrev pub ShownFits : Type 0
 ShownFits = (field item code : ℕ) (paper wire : List ℕ) → length paper ≤ paperRoom → length wire ≤ wireRoom
     → length (shown field item code paper wire) ≤ lineRoom
 
+-- The same of `bad tape N`, whatever the number.
 abbrev pub BadFits : Type 0
 BadFits = (n : ℕ) → length (badTape n) ≤ lineRoom
 
--- what is unused of the buffers, before every item of a run
-pub record Lent (r : Run) : Type 0 where
-  pub paper : paperRoom ≤ r .paper
-  pub wire : wireRoom ≤ r .wire
-
-abbrev pub LentIsEnough : Type 0
-LentIsEnough = (r : Run) → Lent (lentFor r)
-
+-- Assumed: any place of a run, any item. Promised: its code is not 1. Ruled out: a tape that fails by its length; an
+-- item refused for what others wrote.
 abbrev pub NeverNoRoom : Type 0
-NeverNoRoom = (r : Run) (i : Item) → itemAnswer (lentFor r) i .code ≡ NoRoom → ⊥
+NeverNoRoom = (r : TapeRun) (i : Item) → itemAnswer (withRoom r) i .code ≡ NoRoom → ⊥
 
--- the count that bounds a tape's fields leaves none out: a larger one gives the same
+-- Assumed: any tape. Promised: the count that bounds its fields leaves none out, as a larger one gives the same.
+-- Ruled out: a run that stops at some number of fields; one that passes over empty fields.
 abbrev pub NoFieldLeftOut : Type 0
-NoFieldLeftOut = (tape : List ℕ) (more : ℕ) (r : Run) → fieldsRun (length tape + more) tape 0 1 r ≡ fieldsRun (length tape) tape 0 1 r
+NoFieldLeftOut = (tape : List ℕ) (more : ℕ) → fieldsFrom (suc (length tape) + more) tape 0 ≡ fieldsAt tape 0

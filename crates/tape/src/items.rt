@@ -1,12 +1,12 @@
 // The items of a field: each is a call on the printer end, with a line of its own.
 ghost use mathlib.Core.Path.{_≡_};
 ghost use lib.ListN.{length};
-ghost use Rattle.lists.specs.Buffers.{RoomFor};
-ghost use Rattle.printer.specs.Kept.{viewPrinter, MetAnswer};
+ghost use Rattle.lists.specs.Buffers.{lent, RoomFor};
+ghost use Rattle.printer.specs.Refinement.{viewPrinter, RefinesAnswer};
+ghost use Rattle.tape.specs.Fields.{itemOf};
 ghost use Rattle.tape.specs.Lines.{answerLine};
 ghost use Rattle.tape.specs.Running.{pairOf, typedCall, itemCall};
-ghost use Rattle.tape.specs.Steps.{itemOf};
-ghost use Rattle.tape.specs.Kept.{MetItem};
+ghost use Rattle.tape.specs.Refinement.Machine.{itemAt, RefinesItem};
 use super::KEYS;
 use super::NETWORK;
 use super::Pair;
@@ -46,7 +46,7 @@ fn key_of(kind: u8, v: u8) -> Pair
 
 // A key pair. One that stands for no key is code 3 and never comes to the printer end.
 fn press_pair(s: Printer, kind: u8, v: u8, paper: &mut [u8], wire: &mut [u8]) -> Answer
-    ensures { λ r. ⌜ MetAnswer (typedCall (viewPrinter s) (pairOf kind v) (length (now (paper .entry))) (length (now (wire .entry)))) s (now (paper .entry)) (now (paper .exit)) (now (wire .entry)) (now (wire .exit)) r ⌝ }
+    ensures { λ r. ⌜ RefinesAnswer (typedCall (viewPrinter s) (pairOf kind v)) s (lent paper) (lent wire) r ⌝ }
 {
     let pair = key_of(kind, v);
     let Pair::Typed(key) = pair else {
@@ -63,7 +63,7 @@ fn press_pair(s: Printer, kind: u8, v: u8, paper: &mut [u8], wire: &mut [u8]) ->
 
 // An item by its field's tag: a network byte is the first of the two bytes.
 fn call_item(s: Printer, tag: u8, a: u8, b: u8, paper: &mut [u8], wire: &mut [u8]) -> Answer
-    ensures { λ r. ⌜ MetAnswer (itemCall (viewPrinter s) (itemOf tag a b) (length (now (paper .entry))) (length (now (wire .entry)))) s (now (paper .entry)) (now (paper .exit)) (now (wire .entry)) (now (wire .exit)) r ⌝ }
+    ensures { λ r. ⌜ RefinesAnswer (itemCall (viewPrinter s) (itemOf tag a b)) s (lent paper) (lent wire) r ⌝ }
 {
     match tag {
         NETWORK => calls::network_byte(s, a, paper, wire),
@@ -82,8 +82,8 @@ pub fn put_item(
     wire: &mut [u8],
     out: &mut [u8],
 ) -> Shown
-    requires { ⌜ RoomFor (answerLine (p .field) (p .item) (itemCall (viewPrinter s) (itemOf (p .tag) a b) (length (now paper)) (length (now wire)))) (now out) ⌝ }
-    ensures { λ r. ⌜ MetItem (itemCall (viewPrinter s) (itemOf (p .tag) a b) (length (now (paper .entry))) (length (now (wire .entry)))) (answerLine (p .field) (p .item) (itemCall (viewPrinter s) (itemOf (p .tag) a b) (length (now (paper .entry))) (length (now (wire .entry))))) s (now (paper .entry)) (now (paper .exit)) (now (wire .entry)) (now (wire .exit)) (now (out .entry)) (now (out .exit)) r ⌝ }
+    requires { ⌜ RoomFor (answerLine (p .field) (p .item) (itemAt (viewPrinter s) p a b (length (now paper)) (length (now wire)))) (now out) ⌝ }
+    ensures { λ r. ⌜ RefinesItem (itemAt (viewPrinter s) p a b) (answerLine (p .field) (p .item)) s (lent paper) (lent wire) (lent out) r ⌝ }
 {
     let answer = call_item(s, p.tag, a, b, paper, wire);
     let code = answer.code;

@@ -1,11 +1,11 @@
 // What is printed of a tape. Each encoder is handed the output behind what was written so far, and writes at its
 // beginning.
+ghost use mathlib.Core.List.{flatMap};
 ghost use mathlib.Core.Path.{_≡_};
 ghost use Prim.Native.Nat.{_<_};
-ghost use Rattle.lists.specs.Lists.{joined};
-ghost use Rattle.lists.specs.Buffers.{RoomFor, Wrote};
-ghost use Rattle.tape.specs.Lines.{digits, decimal, hexDigit, hexByte, hexOf, lineOf, isQuiet, shown, badTape};
-ghost use Rattle.tape.specs.Parts.{numberThen, hexThen, numbersOf, bytesOf};
+ghost use Rattle.lists.specs.Buffers.{lent, WroteAtStart, RoomFor};
+ghost use Rattle.tape.specs.Lines.{digits, decimal, hexDigit, hexByte, hexOf, lineOf, showsNothing, shown, badTape};
+ghost use Rattle.tape.specs.Refinement.Parts.{numberThen, hexThen, numbersOf, bytesOf};
 
 // The most digits that a number is printed with.
 const DIGITS: usize = 5;
@@ -13,7 +13,7 @@ const DIGITS: usize = 5;
 // At most that many digits of a number, its last ones.
 fn put_digits(most: usize, m: usize, out: &mut [u8]) -> usize
     requires { ⌜ RoomFor (digits most m) (now out) ⌝ }
-    ensures { λ r. ⌜ Wrote (digits most m) (now (out .entry)) (now (out .exit)) r ⌝ }
+    ensures { λ r. ⌜ WroteAtStart (digits most m) (lent out) r ⌝ }
 {
     if most == 0 {
         return 0;
@@ -30,7 +30,7 @@ fn put_digits(most: usize, m: usize, out: &mut [u8]) -> usize
 
 fn put_decimal(n: usize, out: &mut [u8]) -> usize
     requires { ⌜ RoomFor (decimal n) (now out) ⌝ }
-    ensures { λ r. ⌜ Wrote (decimal n) (now (out .entry)) (now (out .exit)) r ⌝ }
+    ensures { λ r. ⌜ WroteAtStart (decimal n) (lent out) r ⌝ }
 {
     put_digits(DIGITS, n, out)
 }
@@ -45,7 +45,7 @@ fn hex_digit(n: u8) -> u8
 
 fn put_hex_byte(b: u8, out: &mut [u8]) -> usize
     requires { ⌜ RoomFor (hexByte b) (now out) ⌝ }
-    ensures { λ r. ⌜ Wrote (hexByte b) (now (out .entry)) (now (out .exit)) r ⌝ }
+    ensures { λ r. ⌜ WroteAtStart (hexByte b) (lent out) r ⌝ }
 {
     let high = hex_digit(b / 16);
     let low = hex_digit(b % 16);
@@ -55,8 +55,8 @@ fn put_hex_byte(b: u8, out: &mut [u8]) -> usize
 }
 
 fn put_hex_bytes(bytes: &[u8], out: &mut [u8]) -> usize
-    requires { ⌜ RoomFor (joined hexByte (now bytes)) (now out) ⌝ }
-    ensures { λ r. ⌜ Wrote (joined hexByte (now (bytes .entry))) (now (out .entry)) (now (out .exit)) r ⌝ }
+    requires { ⌜ RoomFor (flatMap hexByte (now bytes)) (now out) ⌝ }
+    ensures { λ r. ⌜ WroteAtStart (flatMap hexByte (now (bytes .entry))) (lent out) r ⌝ }
 {
     let mut i: usize = 0;
     let mut n: usize = 0;
@@ -72,7 +72,7 @@ fn put_hex_bytes(bytes: &[u8], out: &mut [u8]) -> usize
 // Bytes in hex, `-` for none.
 fn put_hex(bytes: &[u8], out: &mut [u8]) -> usize
     requires { ⌜ RoomFor (hexOf (now bytes)) (now out) ⌝ }
-    ensures { λ r. ⌜ Wrote (hexOf (now (bytes .entry))) (now (out .entry)) (now (out .exit)) r ⌝ }
+    ensures { λ r. ⌜ WroteAtStart (hexOf (now (bytes .entry))) (lent out) r ⌝ }
 {
     if bytes.len() == 0 {
         out[0] = b'-';
@@ -84,7 +84,7 @@ fn put_hex(bytes: &[u8], out: &mut [u8]) -> usize
 // A number and the byte that parts it from what follows.
 fn put_number(n: usize, then: u8, out: &mut [u8]) -> usize
     requires { ⌜ RoomFor (numberThen n then) (now out) ⌝ }
-    ensures { λ r. ⌜ Wrote (numberThen n then) (now (out .entry)) (now (out .exit)) r ⌝ }
+    ensures { λ r. ⌜ WroteAtStart (numberThen n then) (lent out) r ⌝ }
 {
     let at = put_decimal(n, out);
     out[at] = then;
@@ -94,7 +94,7 @@ fn put_number(n: usize, then: u8, out: &mut [u8]) -> usize
 // .. and of bytes in hex.
 fn put_hex_then(bytes: &[u8], then: u8, out: &mut [u8]) -> usize
     requires { ⌜ RoomFor (hexThen (now bytes) then) (now out) ⌝ }
-    ensures { λ r. ⌜ Wrote (hexThen (now (bytes .entry)) then) (now (out .entry)) (now (out .exit)) r ⌝ }
+    ensures { λ r. ⌜ WroteAtStart (hexThen (now (bytes .entry)) then) (lent out) r ⌝ }
 {
     let at = put_hex(bytes, out);
     out[at] = then;
@@ -104,7 +104,7 @@ fn put_hex_then(bytes: &[u8], then: u8, out: &mut [u8]) -> usize
 // The numbers at the front of a line.
 fn put_numbers(field: usize, item: usize, code: u8, out: &mut [u8]) -> usize
     requires { ⌜ RoomFor (numbersOf field item code) (now out) ⌝ }
-    ensures { λ r. ⌜ Wrote (numbersOf field item code) (now (out .entry)) (now (out .exit)) r ⌝ }
+    ensures { λ r. ⌜ WroteAtStart (numbersOf field item code) (lent out) r ⌝ }
 {
     let a = put_number(field, b'.', out);
     let b = a + put_number(item, b' ', &mut out[a..]);
@@ -114,7 +114,7 @@ fn put_numbers(field: usize, item: usize, code: u8, out: &mut [u8]) -> usize
 // The bytes at its end.
 fn put_both(paper: &[u8], wire: &[u8], out: &mut [u8]) -> usize
     requires { ⌜ RoomFor (bytesOf (now paper) (now wire)) (now out) ⌝ }
-    ensures { λ r. ⌜ Wrote (bytesOf (now (paper .entry)) (now (wire .entry))) (now (out .entry)) (now (out .exit)) r ⌝ }
+    ensures { λ r. ⌜ WroteAtStart (bytesOf (now (paper .entry)) (now (wire .entry))) (lent out) r ⌝ }
 {
     let a = put_hex_then(paper, b' ', out);
     a + put_hex_then(wire, b'\n', &mut out[a..])
@@ -123,15 +123,15 @@ fn put_both(paper: &[u8], wire: &[u8], out: &mut [u8]) -> usize
 // `field.item code paper wire`
 fn put_line(field: usize, item: usize, code: u8, paper: &[u8], wire: &[u8], out: &mut [u8]) -> usize
     requires { ⌜ RoomFor (lineOf field item code (now paper) (now wire)) (now out) ⌝ }
-    ensures { λ r. ⌜ Wrote (lineOf field item code (now (paper .entry)) (now (wire .entry))) (now (out .entry)) (now (out .exit)) r ⌝ }
+    ensures { λ r. ⌜ WroteAtStart (lineOf field item code (now (paper .entry)) (now (wire .entry))) (lent out) r ⌝ }
 {
     let a = put_numbers(field, item, code, out);
     a + put_both(paper, wire, &mut out[a..])
 }
 
 // Whether an item gives no line: it has no code, no paper and no wire bytes.
-fn is_quiet(code: u8, paper: &[u8], wire: &[u8]) -> bool
-    ensures { λ r. ⌜ r ≡ isQuiet code (now (paper .entry)) (now (wire .entry)) ⌝ }
+fn shows_nothing(code: u8, paper: &[u8], wire: &[u8]) -> bool
+    ensures { λ r. ⌜ r ≡ showsNothing code (now (paper .entry)) (now (wire .entry)) ⌝ }
 {
     match code {
         0 => paper.len() == 0 && wire.len() == 0,
@@ -149,9 +149,9 @@ pub fn put_shown(
     out: &mut [u8],
 ) -> usize
     requires { ⌜ RoomFor (shown field item code (now paper) (now wire)) (now out) ⌝ }
-    ensures { λ r. ⌜ Wrote (shown field item code (now (paper .entry)) (now (wire .entry))) (now (out .entry)) (now (out .exit)) r ⌝ }
+    ensures { λ r. ⌜ WroteAtStart (shown field item code (now (paper .entry)) (now (wire .entry))) (lent out) r ⌝ }
 {
-    if is_quiet(code, paper, wire) {
+    if shows_nothing(code, paper, wire) {
         return 0;
     }
     put_line(field, item, code, paper, wire, out)
@@ -160,7 +160,7 @@ pub fn put_shown(
 // `bad tape N`
 pub fn put_bad(n: usize, out: &mut [u8]) -> usize
     requires { ⌜ RoomFor (badTape n) (now out) ⌝ }
-    ensures { λ r. ⌜ Wrote (badTape n) (now (out .entry)) (now (out .exit)) r ⌝ }
+    ensures { λ r. ⌜ WroteAtStart (badTape n) (lent out) r ⌝ }
 {
     let a = wire::put_bytes(b"bad tape ", out);
     a + put_number(n, b'\n', &mut out[a..])

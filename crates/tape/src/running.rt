@@ -1,17 +1,17 @@
 // Running a tape: one step looks up the next field, or does one item.
 ghost use mathlib.Core.Path.{_≡_};
 ghost use Prim.Native.Nat.{_+_, _-_, _≤_, _<_};
-ghost use mathlib.Core.Bool.{false};
+ghost use mathlib.Core.Bool.{false, cond};
 ghost use lib.Dec.{ltb};
 ghost use lib.ListN.{length, getD};
-ghost use Rattle.lists.specs.Choice.{pick};
+ghost use Rattle.lists.specs.Buffers.{lent};
 ghost use Rattle.tape.specs.Running.{lentPaper, lentWire};
 ghost use Rattle.tape.specs.Whole.{lineRoom};
-ghost use Rattle.tape.specs.Fields.{foundAt};
+ghost use Rattle.tape.specs.Fields.{foundAt, itemOf};
 ghost use Rattle.tape.specs.Lines.{badTape};
-ghost use Rattle.tape.specs.Steps.{width, itemOf, isOver, isTooLong, ended, pastItem, goes, itemStep, fieldStep, stepped};
-ghost use Rattle.tape.specs.ManySteps.{ranFor};
-ghost use Rattle.tape.specs.Kept.{viewMachine, MetGoing, MetStart};
+ghost use Rattle.tape.specs.Refinement.Steps.{width, isOver, isTooLong, atTapeEnd, pastItem, goes, itemStep, firstItem, fieldStep, stepped};
+ghost use Rattle.tape.specs.Refinement.ManySteps.{ranFor};
+ghost use Rattle.tape.specs.Refinement.Machine.{viewMachine, RefinesProgress, RefinesRun, startCells};
 use super::Cursor;
 use super::Found;
 use super::Machine;
@@ -62,7 +62,7 @@ fn width(tag: u8) -> usize
 // How much of a buffer is used before the next item: none, where it is lent afresh.
 fn used_for(used: usize, size: usize, room: usize) -> usize
     requires { ⌜ (1 ≤ room) × (room ≤ size) ⌝ }
-    ensures { λ r. ⌜ (size - r ≡ pick (ltb (size - used) room) size (size - used)) × (r + room ≤ size) ⌝ }
+    ensures { λ r. ⌜ (size - r ≡ cond (ltb (size - used) room) size (size - used)) × (r + room ≤ size) ⌝ }
 {
     if used <= size - room { used } else { 0 }
 }
@@ -75,7 +75,7 @@ fn second(bytes: &[u8]) -> u8
 }
 
 fn stopped(m: Machine) -> Machine
-    ensures { λ r. ⌜ r ≡ record { printer = m .printer; paper = m .paper; wire = m .wire; place = ended (m .place) } ⌝ }
+    ensures { λ r. ⌜ r ≡ record { printer = m .printer; paper = m .paper; wire = m .wire; place = atTapeEnd (m .place) } ⌝ }
 {
     let mut place = m.place;
     place.over = true;
@@ -116,7 +116,7 @@ fn one_item(
     requires { ⌜ length (now paper) ≡ lentPaper ⌝ }
     requires { ⌜ length (now wire) ≡ lentWire ⌝ }
     requires { ⌜ lineRoom ≤ length (now out) ⌝ }
-    ensures { λ r. ⌜ MetGoing (itemStep (viewMachine m) after (itemOf (m .place .tag) a b)) m (now (out .entry)) (now (out .exit)) r ⌝ }
+    ensures { λ r. ⌜ RefinesProgress (itemStep (viewMachine m) after (itemOf (m .place .tag) a b)) m (lent out) r ⌝ }
 {
     let place = m.place;
     let printer = m.printer;
@@ -138,7 +138,7 @@ fn one_item(
 
 // A run in front of a field's first item.
 fn entered(m: Machine, field: usize, tag: u8, start: usize, size: usize, next: Cursor) -> Machine
-    ensures { λ r. ⌜ r ≡ record { printer = m .printer; paper = m .paper; wire = m .wire; place = record { field = field; item = 1; tag = tag; at = start; left = size; next = next .at; over = false } } ⌝ }
+    ensures { λ r. ⌜ r ≡ record { printer = m .printer; paper = m .paper; wire = m .wire; place = firstItem field tag start size (next .at) } ⌝ }
 {
     let place = Place {
         field,
@@ -158,7 +158,7 @@ fn entered(m: Machine, field: usize, tag: u8, start: usize, size: usize, next: C
 fn next_field(tape: &[u8], m: Machine, out: &mut [u8]) -> Stepped
     requires { ⌜ m .place .field ≤ m .place .next ⌝ }
     requires { ⌜ lineRoom ≤ length (now out) ⌝ }
-    ensures { λ r. ⌜ MetGoing (fieldStep (viewMachine m) (foundAt (now (tape .entry)) (m .place .next))) m (now (out .entry)) (now (out .exit)) r ⌝ }
+    ensures { λ r. ⌜ RefinesProgress (fieldStep (viewMachine m) (foundAt (now (tape .entry)) (m .place .next))) m (lent out) r ⌝ }
 {
     let place = m.place;
     let found = scanning::next_at(tape, place.next);
@@ -202,7 +202,7 @@ fn is_too_long(tape: &[u8], p: Place) -> bool
 // A tape that is too long is bad as a whole.
 fn refuse_tape(m: Machine, out: &mut [u8]) -> Stepped
     requires { ⌜ lineRoom ≤ length (now out) ⌝ }
-    ensures { λ r. ⌜ MetGoing (goes (badTape 0) (viewMachine m .run) (ended (m .place))) m (now (out .entry)) (now (out .exit)) r ⌝ }
+    ensures { λ r. ⌜ RefinesProgress (goes (badTape 0) (viewMachine m .run) (atTapeEnd (m .place))) m (lent out) r ⌝ }
 {
     let written = lines::put_bad(0, out);
     Stepped {
@@ -216,7 +216,7 @@ fn step(tape: &[u8], m: Machine, paper: &mut [u8], wire: &mut [u8], out: &mut [u
     requires { ⌜ length (now paper) ≡ lentPaper ⌝ }
     requires { ⌜ length (now wire) ≡ lentWire ⌝ }
     requires { ⌜ lineRoom ≤ length (now out) ⌝ }
-    ensures { λ r. ⌜ MetGoing (stepped (now (tape .entry)) (viewMachine m)) m (now (out .entry)) (now (out .exit)) r ⌝ }
+    ensures { λ r. ⌜ RefinesProgress (stepped (now (tape .entry)) (viewMachine m)) m (lent out) r ⌝ }
 {
     let place = m.place;
     if is_over(place) {
@@ -242,7 +242,7 @@ fn step(tape: &[u8], m: Machine, paper: &mut [u8], wire: &mut [u8], out: &mut [u
 fn run_lent(tape: &[u8], m: Machine, paper: &mut [u8], wire: &mut [u8], out: &mut [u8]) -> Stepped
     requires { ⌜ length (now paper) ≡ lentPaper ⌝ }
     requires { ⌜ length (now wire) ≡ lentWire ⌝ }
-    ensures { λ r. ⌜ MetGoing (ranFor (now (tape .entry)) (viewMachine m) (length (now (out .entry)))) m (now (out .entry)) (now (out .exit)) r ⌝ }
+    ensures { λ r. ⌜ RefinesRun (ranFor (now (tape .entry)) (viewMachine m)) m (lent out) r ⌝ }
 {
     let mut machine = m;
     let mut written: usize = 0;
@@ -256,7 +256,7 @@ fn run_lent(tape: &[u8], m: Machine, paper: &mut [u8], wire: &mut [u8], out: &mu
 
 // A run in front of its tape.
 pub fn begin() -> Machine
-    ensures { λ r. ⌜ MetStart r ⌝ }
+    ensures { λ r. ⌜ r ≡ startCells ⌝ }
 {
     Machine {
         printer: calls::fresh(),
@@ -277,7 +277,7 @@ pub fn begin() -> Machine
 // The lines of a tape that the output surely has room for. The buffers that items are lent are this function's own:
 // what an earlier item wrote there is read by none.
 pub fn run(tape: &[u8], m: Machine, out: &mut [u8]) -> Stepped
-    ensures { λ r. ⌜ MetGoing (ranFor (now (tape .entry)) (viewMachine m) (length (now (out .entry)))) m (now (out .entry)) (now (out .exit)) r ⌝ }
+    ensures { λ r. ⌜ RefinesRun (ranFor (now (tape .entry)) (viewMachine m)) m (lent out) r ⌝ }
 {
     let mut paper = [0u8; PAPER];
     let mut wire = [0u8; WIRE];

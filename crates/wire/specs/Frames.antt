@@ -1,18 +1,17 @@
 -- The encoded forms.
-use mathlib.Core.List.{List, [], _∷_, _++_}
+use mathlib.Core.Bool.{cond}
+use mathlib.Core.List.{List, [], _∷_, _++_, flatMap}
 use Prim.Native.Nat.{ℕ}
 use lib.Dec.{eqb}
-use Rattle.lists.specs.Choice.{pick}
-use Rattle.lists.specs.Lists.{joined}
 use Rattle.codes.specs.Telnet.{IAC, SB, SE, BM, LITERAL, verbNumber}
 use Rattle.codes.specs.declared.Verb.{Verb}
 
 -- a byte of data or of a body, 255 doubled
 unfoldable pub coded : ℕ → List ℕ
-coded b = pick (eqb b IAC) (IAC ∷ IAC ∷ []) (b ∷ [])
+coded b = cond (eqb b IAC) (IAC ∷ IAC ∷ []) (b ∷ [])
 
 abbrev pub doubled : List ℕ → List ℕ
-doubled bs = joined coded bs
+doubled bs = flatMap coded bs
 
 -- a plain command
 abbrev pub command : ℕ → List ℕ

@@ -4,7 +4,7 @@ use Prim.Native.Nat.{ℕ, _≤_}
 use native.Mathlib.Omega.{arith}
 use borrow.Author.Needs.{needs}
 use lib.ListN.{length, set, replicate, length-set, length-replicate}
-use Rattle.lists.specs.Buffers.{Wrote}
+use Rattle.lists.specs.Buffers.{lentAs, WroteAtStart}
 use Rattle.lists.proofs.Starts.{wrote-start}
 use Rattle.lists.proofs.Parts.{same-long, part-room, wrote-then}
 use Rattle.disposition.proofs.Padding.{pads, none-below, none-above, at-least}
@@ -14,7 +14,7 @@ use Rattle.disposition.proofs.put_padded.Tie as tie
 two : (c : tie.Start) → 2 ≤ length (c .args .out .now)
 two c = omega (arith, at-least (c .args .n) (13 ∷ c .args .second ∷ []), c .pre)
 
-first : (c : tie.Start) → Wrote (13 ∷ c .args .second ∷ []) (c .args .out .now) (set (set (c .args .out .now) 0 13) 1 (c .args .second)) 2
+first : (c : tie.Start) → WroteAtStart (13 ∷ c .args .second ∷ []) (lentAs (c .args .out .now) (set (set (c .args .out .now) 0 13) 1 (c .args .second))) 2
 first c = wrote-start (13 ∷ c .args .second ∷ []) (c .args .out .now) (two c)
 
 slice-write-out : tie.Need-slice-write-out

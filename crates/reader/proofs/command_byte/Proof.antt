@@ -1,15 +1,16 @@
 -- `reader::command_byte` meets its contract. Each arm of the match is one case of the rule.
-use mathlib.Core.Path.{_≡_, ap, _∙_}
+use mathlib.Core.Bool.{cond}
+use mathlib.Core.Path.{_≡_}
 use Prim.Native.Nat.{ℕ, suc, _≤_, _<_}
 use native.Mathlib.Omega.{arith}
 use borrow.Author.Tests.{ne-eqb, le-leb, lt-leb}
-use Rattle.lists.specs.Choice.{pick}
 use Rattle.codes.specs.Telnet.{plainCommand}
-use Rattle.reader.specs.declared.Phase.the-variants.{Between, InBody}
+use Rattle.reader.specs.declared.Phase.the-variants.{Between}
 use Rattle.reader.specs.declared.Item.the-variants.{StrayCommand}
-use Rattle.reader.specs.Reading.{Reader, inPhase, gives, goes, commandRead}
-use Rattle.reader.specs.Kept.{viewReader}
+use Rattle.reader.specs.Reading.{inPhase, gives, goes, commandRead}
+use Rattle.reader.specs.Refinement.{viewReader}
 use borrow.Author.Needs.{needs}
+use Rattle.reader.proofs.IdleReader.{idle-clean}
 use Rattle.reader.proofs.command_byte.Statement.{statement}
 use Rattle.reader.proofs.command_byte.Tie as tie
 
@@ -47,10 +48,8 @@ returns c = rw (c .before .match .keys1) (c .stepped .ensures)
 returns-2 : tie.Need-returns-2
 unfolding commandRead
 returns-2 c =
-    let i = c .before .idle .ensures in
-    let s = c .stepped2 .ensures in
-    rw (c .before .before .match .keys2)
-    (record { item = s .item; view = s .view ∙ ap (λ (v : Reader). inPhase v InBody) (i .view); clean = λ h. s .clean (i .clean) })
+    let s = rw (c .before .idle .ensures) at (c .stepped2 .ensures) in
+    rw (c .before .before .match .keys2) (record { item = s .item; view = s .view; clean = λ h. s .clean idle-clean })
 
 returns-3 : tie.Need-returns-3
 unfolding commandRead
@@ -70,7 +69,7 @@ returns-6 c = rw (c .before .match .keys6) (c .stepped6 .ensures)
 
 -- a command that no arm names is plain or stray
 no-name : (c : tie.At-match-rest) → let v = viewReader (c .before .args .r) in
-    commandRead v (c .before .args .b) ≡ pick (plainCommand (c .before .args .b)) (goes Between v) (gives StrayCommand (inPhase v Between))
+    commandRead v (c .before .args .b) ≡ cond (plainCommand (c .before .args .b)) (goes Between v) (gives StrayCommand (inPhase v Between))
 unfolding commandRead
 no-name c =
     let none = c .match .rest in

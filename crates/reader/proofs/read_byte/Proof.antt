@@ -5,7 +5,7 @@ use Rattle.reader.specs.declared.Phase.{Phase}
 use Rattle.reader.specs.declared.Reader.{Reader}
 use Rattle.reader.specs.declared.Read.{Read}
 use Rattle.reader.specs.Reading.{read, readIn}
-use Rattle.reader.specs.Kept.{viewReader, MetRead}
+use Rattle.reader.specs.Refinement.{viewReader, RefinesRead}
 use borrow.Author.Needs.{needs}
 use Rattle.reader.proofs.read_byte.Statement.{statement}
 use Rattle.reader.proofs.read_byte.Tie as tie
@@ -41,9 +41,9 @@ body-command-byte-requires : tie.Need-body-command-byte-requires
 body-command-byte-requires c κs = search needs
 
 -- what the function of a phase ensures is what the rule asks in that phase
-by-phase : (r : Reader) (b : ℕ) (x : Read) (p : Phase) → r .phase ≡ p → MetRead (readIn p (viewReader r) b) r x → MetRead (read (viewReader r) b) r x
+by-phase : (r : Reader) (b : ℕ) (x : Read) (p : Phase) → r .phase ≡ p → RefinesRead (readIn p (viewReader r) b) r x → RefinesRead (read (viewReader r) b) r x
 unfolding read
-by-phase r b x p e m = subst (λ (q : Phase). MetRead (readIn q (viewReader r) b) r x) (sym e) m
+by-phase r b x p e m = subst (λ (q : Phase). RefinesRead (readIn q (viewReader r) b) r x) (sym e) m
 
 returns : tie.Need-returns
 returns c = by-phase _ _ _ _ (c .before .enum-told .given .1) (c .text-byte .ensures)

@@ -4,21 +4,21 @@ use native.Mathlib.Omega.{arith}
 use lib.ListN.{length, take}
 use lib.Seq.{take-length}
 use borrow.Author.Needs.{needs}
-use Rattle.lists.specs.Buffers.{Wrote}
+use Rattle.lists.specs.Buffers.{lentAs, WroteAtStart}
 use Rattle.lists.proofs.Starts.{wrote-none}
 use Rattle.lists.proofs.Copying.{copied-long, copied-more}
 use Rattle.wire.proofs.put_bytes.Statement.{statement}
 use Rattle.wire.proofs.put_bytes.Tie as tie
 
 abbrev Inv-loop : tie.InvT-loop
-Inv-loop src out₀ n i₀ out i = (i ≤ length src) × Wrote (take i src) out₀ out i
+Inv-loop src out₀ n i₀ out i = (i ≤ length src) × WroteAtStart (take i src) (lentAs out₀ out) i
 
 abbrev μ-loop : tie.MeasureT-loop
 μ-loop src out₀ n i₀ out i = length src - i
 
 -- the buffer keeps its length
 long : (a : tie.At-loop Inv-loop μ-loop) → length (a .loop .out) ≡ length (a .before .args .out .now)
-long a = copied-long (a .before .args .src .now) (a .before .args .out .now) (a .loop .out) (a .loop .i) (a .before .pre) (a .loop .inv .1)
+long a = copied-long (a .before .args .src .now) (a .before .pre) (a .loop .inv .1)
 
 loop-holds : tie.Need-loop-holds Inv-loop μ-loop
 loop-holds c = (omega arith, wrote-none _)
@@ -39,7 +39,7 @@ loop-again : tie.Need-loop-again Inv-loop μ-loop
 loop-again c =
     let a = c .before .before in
     let start = a .before in
-    (omega arith, copied-more (start .args .src .now) (start .args .out .now) (a .loop .out) (a .loop .i) (start .pre) (a .loop .inv .1) (c .before .loop-test .taken))
+    (omega arith, copied-more (start .args .src .now) (start .pre) (a .loop .inv .1) (c .before .loop-test .taken))
 
 same-length : tie.Need-same-length Inv-loop μ-loop
 same-length c = long (c .before)

@@ -1,50 +1,49 @@
 use Rattle.wire.specs.Frames.{coded, doubled}
-use Rattle.lists.proofs.Joined.{joined-append, joined-next}
-use Rattle.lists.proofs.Parts.{wrote-then, same-long, part-room, counted}
+use Rattle.lists.proofs.FlatMap.{flatMap-append, flatMap-next}
+use Rattle.lists.proofs.Parts.{restOf, withRest, wrote-then, same-long, part-room, counted}
 use Rattle.lists.proofs.Starts.{wrote-none}
-use Rattle.lists.specs.Lists.{joined}
-use Rattle.lists.specs.Buffers.{Wrote, RoomFor}
-use borrow.Rule.Slice.PartMut.{putMid}
+use Rattle.lists.specs.Buffers.{Lent, lentAs, WroteAtStart, RoomFor}
 use lib.Seq.{take-length}
 use lib.ListN.{length, take, drop, getD, length-append, take-append-drop}
 use Prim.Native.Nat.{ℕ, _≤_, _<_, _-_, _+_}
-use mathlib.Core.List.{List, _++_}
+use mathlib.Core.List.{List, _++_, flatMap}
 use mathlib.Core.Path.{_≡_}
 use native.Mathlib.Omega.{arith}
 use borrow.Author.Needs.{needs}
 use Rattle.wire.proofs.put_doubled.Statement.{statement}
 use Rattle.wire.proofs.put_doubled.Tie as tie
-use Rattle.wire.proofs.put_doubled.Reads as reads
-use Rattle.wire.proofs.put_doubled.Lts as lts
-use Rattle.wire.proofs.put_coded.Reads as put-coded-reads
 
 abbrev Inv-loop : tie.InvT-loop
-Inv-loop body out₀ i₀ n₀ out i n = (i ≤ length body) × Wrote (doubled (take i body)) out₀ out n
+Inv-loop body out₀ i₀ n₀ out i n = (i ≤ length body) × WroteAtStart (doubled (take i body)) (lentAs out₀ out) n
 
 abbrev μ-loop : tie.MeasureT-loop
 μ-loop body out₀ i₀ n₀ out i n = length body - i
 
-module _ (body before : List ℕ) (room : RoomFor (doubled body) before) where
+module _ (body : List ℕ) where
   -- a beginning of the body fits
-  room-begin : (i : ℕ) → RoomFor (doubled (take i body)) before
-  room-begin i =
-      let all : doubled body ≡ doubled (take i body) ++ doubled (drop i body) = rw (← joined-append coded (take i body) (drop i body), take-append-drop i body) in
+  room-begin : (i : ℕ) (out : List ℕ) → RoomFor (doubled body) out → RoomFor (doubled (take i body)) out
+  room-begin i out room =
+      let all : doubled body ≡ doubled (take i body) ++ doubled (drop i body) = rw (← flatMap-append coded (take i body) (drop i body), take-append-drop i body) in
       omega (arith, simp length-append at (rw all at room))
 
-  module _ (out : List ℕ) (i n : ℕ) (lt : i < length body) (w : Wrote (doubled (take i body)) before out n) where
-    room-next : RoomFor (coded (getD body i 0)) (take (length out - n) (drop n out))
-    room-next = part-room w (room-begin i) (coded (getD body i 0)) (rw (← joined-next coded body i 0 lt) (room-begin (i + 1)))
+  module _ {out : Lent} {n : ℕ} (room : RoomFor (doubled body) (out .before)) (i : ℕ) (w : WroteAtStart (doubled (take i body)) out n) where
+    fits : RoomFor (doubled (take i body)) (out .before)
+    fits = room-begin i (out .before) room
 
-    turn : (last : List ℕ) (k : ℕ) → Wrote (coded (getD body i 0)) (take (length out - n) (drop n out)) last k
-        → Wrote (doubled (take (i + 1) body)) before (putMid n (length out - n) out last) (n + k)
-    turn last k v = rw (joined-next coded body i 0 lt) (wrote-then w (room-begin i) (coded (getD body i 0)) last k v)
+    -- the count written is within the buffer
+    within : n ≤ length (out .after)
+    within = omega (arith, w .count, same-long w fits, fits)
 
-  -- the count written is within the buffer
-  within : (out : List ℕ) (i n : ℕ) → Wrote (doubled (take i body)) before out n → n ≤ length out
-  within out i n w = omega (arith, w .count, same-long w (room-begin i), room-begin i)
+    module _ (lt : i < length body) where
+      room-next : RoomFor (coded (getD body i 0)) (restOf out n)
+      room-next = part-room w fits (coded (getD body i 0)) (rw (← flatMap-next coded body i 0 lt) (room-begin (i + 1) (out .before) room))
+
+      turn : {last : List ℕ} {k : ℕ} → WroteAtStart (coded (getD body i 0)) (lentAs (restOf out n) last) k
+          → WroteAtStart (doubled (take (i + 1) body)) (withRest out n last) (n + k)
+      turn {last} {k} v = rw (flatMap-next coded body i 0 lt) (wrote-then w fits (coded (getD body i 0)) last k v)
 
 loop-holds : tie.Need-loop-holds Inv-loop μ-loop
-unfolding joined
+unfolding flatMap
 loop-holds c = (omega arith, wrote-none _)
 
 shared-slice-read-b : tie.Need-shared-slice-read-b Inv-loop μ-loop
@@ -53,16 +52,11 @@ shared-slice-read-b c = search needs
 sub-put-coded : tie.Need-sub-put-coded Inv-loop μ-loop
 sub-put-coded c =
     let start = c .before .before .before .before .before in
-    let a = start .args in
     let loop = c .before .before .loop in
-    omega (arith, within (a .body .now) (a .out .now) (start .pre) (loop .out) (loop .i) (loop .n) (loop .inv .1))
+    within (start .args .body .now) (start .pre) (loop .i) (loop .inv .1)
 
 part-put-coded-start : tie.Need-part-put-coded-start Inv-loop μ-loop
-part-put-coded-start c =
-    let start = c .before .before .before .before .before in
-    let a = start .args in
-    let loop = c .before .before .loop in
-    omega (arith, within (a .body .now) (a .out .now) (start .pre) (loop .out) (loop .i) (loop .n) (loop .inv .1))
+part-put-coded-start c = sub-put-coded c
 
 part-put-coded-end : tie.Need-part-put-coded-end Inv-loop μ-loop
 part-put-coded-end c = search needs
@@ -70,14 +64,16 @@ part-put-coded-end c = search needs
 put-coded-requires : tie.Need-put-coded-requires Inv-loop μ-loop
 put-coded-requires c κs =
     let start = c .before .before .before .before .before .before in
-    let a = start .args in
     let loop = c .before .before .before .loop in
-    room-next (a .body .now) (a .out .now) (start .pre) (loop .out) (loop .i) (loop .n) (c .before .before .loop-test .taken) (loop .inv .1)
+    room-next (start .args .body .now) (start .pre) (loop .i) (loop .inv .1) (c .before .before .loop-test .taken)
 
 add-n : tie.Need-add-n Inv-loop μ-loop
 add-n c =
-    let t = turn (c .before .before .before .before .before .before .before .before .before .args .body .now) (c .before .before .before .before .before .before .before .before .before .args .out .now) (c .before .before .before .before .before .before .before .before .before .pre) (c .before .before .before .before .before .before .loop .out) (c .before .before .before .before .before .before .loop .i) (c .before .before .before .before .before .before .loop .n) (c .before .before .before .before .before .loop-test .taken) (c .before .before .before .before .before .before .loop .inv .1) (c .before .before .put-coded .last .1 .0) (c .before .before .put-coded .result) (c .before .before .put-coded .ensures) in
-    omega (arith, counted t (room-begin (c .before .before .before .before .before .before .before .before .before .args .body .now) (c .before .before .before .before .before .before .before .before .before .args .out .now) (c .before .before .before .before .before .before .before .before .before .pre) (c .before .before .before .before .before .before .loop .i + 1)), c .before .before .before .before .before .before .before .before .before .good .1 .0 .0)
+    let a = c .before .before .before .before .before .before in
+    let start = a .before .before .before in
+    let body = start .args .body .now in
+    let wrote = turn body (start .pre) (a .loop .i) (a .loop .inv .1) (c .before .before .before .before .before .loop-test .taken) (c .before .before .put-coded .ensures) in
+    omega (arith, counted wrote (room-begin body (a .loop .i + 1) (start .args .out .now) (start .pre)), start .good .1 .0 .0)
 
 add-i : tie.Need-add-i Inv-loop μ-loop
 add-i c = search needs
@@ -87,15 +83,14 @@ loop-less c = search needs
 
 loop-again : tie.Need-loop-again Inv-loop μ-loop
 loop-again c =
-    let start = c .before .before .before .before .before .before .before .before .before in
-    let a = start .args in
-    let loop = c .before .before .before .before .before .before .loop in
-    let loop-test = c .before .before .before .before .before .loop-test in
-    let put-coded = c .before .before .put-coded in
-    (omega arith, turn (a .body .now) (a .out .now) (start .pre) (loop .out) (loop .i) (loop .n) (loop-test .taken) (loop .inv .1) (put-coded .last .1 .0) (put-coded .result) (put-coded .ensures))
+    let a = c .before .before .before .before .before .before in
+    let start = a .before .before .before in
+    (omega arith, turn (start .args .body .now) (start .pre) (a .loop .i) (a .loop .inv .1) (c .before .before .before .before .before .loop-test .taken) (c .before .before .put-coded .ensures))
 
 same-length : tie.Need-same-length Inv-loop μ-loop
-same-length c = same-long (c .before .loop .inv .1) (room-begin (c .before .before .before .before .args .body .now) (c .before .before .before .before .args .out .now) (c .before .before .before .before .pre) (c .before .loop .i))
+same-length c =
+    let start = c .before .before .before .before in
+    same-long (c .before .loop .inv .1) (room-begin (start .args .body .now) (c .before .loop .i) (start .args .out .now) (start .pre))
 
 returns : tie.Need-returns Inv-loop μ-loop
 returns c =

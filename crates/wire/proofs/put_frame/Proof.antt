@@ -1,7 +1,7 @@
 use Rattle.wire.specs.Frames.{doubled, frame}
 use Rattle.lists.proofs.Parts.{wrote-then, wrote-more, same-long, part-room}
 use Rattle.lists.proofs.Starts.{wrote-start}
-use Rattle.lists.specs.Buffers.{Wrote, RoomFor}
+use Rattle.lists.specs.Buffers.{lentAs, WroteAtStart, RoomFor}
 use borrow.Rule.Slice.PartMut.{putMid}
 use lib.ListN.{length, take, drop, set, length-append, length-set}
 use Prim.Native.Nat.{ℕ, _≤_, _<_, _-_, _+_}
@@ -25,7 +25,7 @@ module _ (body before : List ℕ) (room : RoomFor (frame body) before) where
   opened : List ℕ
   opened = set (set before 0 255) 1 250
 
-  opened-wrote : Wrote (255 ∷ 250 ∷ []) before opened 2
+  opened-wrote : WroteAtStart (255 ∷ 250 ∷ []) (lentAs before opened) 2
   unfolding opened
   opened-wrote = wrote-start (255 ∷ 250 ∷ []) before (omega (arith, room-all))
 
@@ -35,11 +35,11 @@ module _ (body before : List ℕ) (room : RoomFor (frame body) before) where
   room-body : RoomFor (doubled body) (take (length opened - 2) (drop 2 opened))
   room-body = part-room opened-wrote room-two (doubled body) (simp length-append (omega (arith, room-all)))
 
-  module _ (last : List ℕ) (k : ℕ) (v : Wrote (doubled body) (take (length opened - 2) (drop 2 opened)) last k) where
+  module _ (last : List ℕ) (k : ℕ) (v : WroteAtStart (doubled body) (lentAs (take (length opened - 2) (drop 2 opened)) last) k) where
     filled : List ℕ
     filled = putMid 2 (length opened - 2) opened last
 
-    filled-wrote : Wrote ((255 ∷ 250 ∷ []) ++ doubled body) before filled (2 + k)
+    filled-wrote : WroteAtStart ((255 ∷ 250 ∷ []) ++ doubled body) (lentAs before filled) (2 + k)
     unfolding filled
     filled-wrote = wrote-then opened-wrote room-two (doubled body) last k v
 
@@ -59,7 +59,7 @@ module _ (body before : List ℕ) (room : RoomFor (frame body) before) where
     same : length (set (set filled (k + 2) 255) (k + 2 + 1) 240) ≡ length before
     same = simp length-set long
 
-    closed-wrote : Wrote (frame body) before (set (set filled (k + 2) 255) (k + 2 + 1) 240) (k + 4)
+    closed-wrote : WroteAtStart (frame body) (lentAs before (set (set filled (k + 2) 255) (k + 2 + 1) 240)) (k + 4)
     unfolding frame
     closed-wrote =
         let s = spare in

@@ -1,10 +1,11 @@
-use mathlib.Core.Path.{_≡_}
+use mathlib.Core.Path.{_≡_, ap}
 use native.Mathlib.Omega.{arith}
 use lib.ListN.{length, length-take}
-use Rattle.reader.specs.Kept.{viewReader}
-use Rattle.bulletin.specs.Kept.{viewBulletin}
+use Rattle.reader.specs.Refinement.{viewReader}
+use Rattle.bulletin.specs.Refinement.{viewBulletin}
 use Rattle.bulletin.proofs.Bodies.{body-end}
 use borrow.Author.Needs.{needs}
+use Rattle.reader.proofs.IdleReader.{idle-clean}
 use Rattle.bulletin.proofs.body.body_read.Statement.{statement}
 use Rattle.bulletin.proofs.body.body_read.Tie as tie
 
@@ -35,7 +36,7 @@ handled-requires c κs =
     let idle = n .before .before in
     let checked = idle .before in
     let start = checked .before .before .before .before in
-    rw (body-end (viewBulletin (start .args .s)) (viewReader (idle .idle .result)) (checked .body-checked .result) (idle .idle .ensures .view) (checked .body-checked .ensures), ← n .body-len .ensures) at (start .pre)
+    rw (body-end (viewBulletin (start .args .s)) (viewReader (idle .idle .result)) (checked .body-checked .result) (ap viewReader (idle .idle .ensures)) (checked .body-checked .ensures), ← n .body-len .ensures) at (start .pre)
 
 same-length : tie.Need-same-length
 same-length c = search needs
@@ -47,11 +48,11 @@ returns c =
     let idle = n .before .before in
     let checked = idle .before in
     let start = checked .before .before .before .before in
-    rw (body-end (viewBulletin (start .args .s)) (viewReader (idle .idle .result)) (checked .body-checked .result) (idle .idle .ensures .view) (checked .body-checked .ensures), ← n .body-len .ensures)
+    rw (body-end (viewBulletin (start .args .s)) (viewReader (idle .idle .result)) (checked .body-checked .result) (ap viewReader (idle .idle .ensures)) (checked .body-checked .ensures), ← n .body-len .ensures)
     (record {
       met = λ host.
           let e = sent .handled .ensures .met host in
-          record { note = e .note; given = e .given; sent = e .sent; view = e .view; clean = λ k. e .clean (record { reader = idle .idle .ensures .clean; table = k .table }) };
+          record { note = e .note; given = e .given; sent = e .sent; view = e .view; clean = λ k. e .clean (record { reader = rw (idle .idle .ensures) idle-clean; table = k .table }) };
     })
 
 pub body-read-spec : {M : Type 1} → statement M

@@ -1,5 +1,5 @@
 use Rattle.codes.specs.declared.Note.the-variants.{OtherOption}
-use Rattle.bulletin.proofs.Meeting.{met-same, met-quietly}
+use Rattle.bulletin.proofs.Meeting.{met-same, met-unwritten}
 use borrow.Author.Needs.{needs}
 use Rattle.bulletin.proofs.body.handled.Statement.{statement}
 use Rattle.bulletin.proofs.body.handled.Tie as tie
@@ -29,10 +29,10 @@ reply-read-requires : tie.Need-reply-read-requires
 reply-read-requires c κs = let told = c .before in rw (told .enum-told3 .given .1) at (told .before .before .before .before .pre)
 
 returns : tie.Need-returns
-returns c = rw (c .before .before .checked .given .1, c .step .ensures) (met-quietly _ met-same .met _)
+returns c = rw (c .before .before .checked .given .1, c .step .ensures) (met-unwritten _ met-same .met _)
 
 returns-2 : tie.Need-returns-2
-returns-2 c = rw (c .before .enum-told .given .1, c .step2 .ensures) (met-quietly OtherOption met-same .met _)
+returns-2 c = rw (c .before .enum-told .given .1, c .step2 .ensures) (met-unwritten OtherOption met-same .met _)
 
 returns-3 : tie.Need-returns-3
 returns-3 c = rw (c .before .enum-told2 .given .1) (c .value-read .ensures .met _)

@@ -1,6 +1,6 @@
 use mathlib.Core.Path.{sym, _∙_}
 use Rattle.codes.specs.declared.Note.the-variants.{Unreadable}
-use Rattle.bulletin.proofs.Meeting.{met-same, met-quietly}
+use Rattle.bulletin.proofs.Meeting.{met-same, met-unwritten}
 use borrow.Author.Needs.{needs}
 use Rattle.bulletin.proofs.body.reply_read.Statement.{statement}
 use Rattle.bulletin.proofs.body.reply_read.Tie as tie
@@ -20,10 +20,10 @@ step-requires c κs = search needs
 returns : tie.Need-returns
 returns c =
     rw (sym (c .before .before .before .reply-body .ensures) ∙ c .before .enum-told .given .1, c .step .ensures)
-    (met-quietly Unreadable met-same .met _)
+    (met-unwritten Unreadable met-same .met _)
 
-replied-requires : tie.Need-replied-requires
-replied-requires c κs =
+macro-replied-requires : tie.Need-macro-replied-requires
+macro-replied-requires c κs =
     let read = c .before .before in
     let asked = read .before .before in
     rw (sym (asked .reply-body .ensures) ∙ read .reply .given .1) at (asked .before .before .before .pre)
@@ -35,7 +35,7 @@ returns-2 : tie.Need-returns-2
 returns-2 c =
     let sent = c .before .before in
     let read = sent .before .before .before in
-    rw (sym (read .before .before .reply-body .ensures) ∙ read .reply .given .1) (sent .replied .ensures)
+    rw (sym (read .before .before .reply-body .ensures) ∙ read .reply .given .1) (sent .macro-replied .ensures)
 
 pub reply-read-spec : {M : Type 1} → statement M
 reply-read-spec =
@@ -46,6 +46,6 @@ reply-read-spec =
     enum-told
     step-requires
     returns
-    replied-requires
+    macro-replied-requires
     same-length
     returns-2)

@@ -1,6 +1,6 @@
 use mathlib.Core.Path.{sym, _∙_}
 use Rattle.codes.specs.declared.Note.the-variants.{Clear, Unreadable}
-use Rattle.bulletin.proofs.Meeting.{met-same, met-quietly}
+use Rattle.bulletin.proofs.Meeting.{met-same, met-unwritten}
 use borrow.Author.Needs.{needs}
 use Rattle.bulletin.proofs.body.value_read.Statement.{statement}
 use Rattle.bulletin.proofs.body.value_read.Tie as tie
@@ -18,7 +18,7 @@ step-requires : tie.Need-step-requires
 step-requires c κs = search needs
 
 returns : tie.Need-returns
-returns c = rw (sym (c .before .before .before .value-body .ensures) ∙ c .before .enum-told .given .1, c .step .ensures) (met-quietly Unreadable met-same)
+returns c = rw (sym (c .before .before .before .value-body .ensures) ∙ c .before .enum-told .given .1, c .step .ensures) (met-unwritten Unreadable met-same)
 
 with-dr-requires : tie.Need-with-dr-requires
 with-dr-requires c κs = search needs
@@ -34,7 +34,7 @@ returns-2 c =
     let dr = c .before .before in
     let read = dr .before .before .before in
     rw (sym (read .before .before .value-body .ensures) ∙ read .value .given .1, c .step2 .ensures, ← dr .with-dr .ensures)
-    (met-quietly Clear (c .before .with-values .ensures))
+    (met-unwritten Clear (c .before .with-values .ensures))
 
 pub value-read-spec : {M : Type 1} → statement M
 value-read-spec =

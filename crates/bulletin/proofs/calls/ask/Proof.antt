@@ -4,7 +4,7 @@ use lib.ListN.{length}
 use Rattle.codes.specs.Answers.{noWire, guarded}
 use Rattle.negotiation.specs.Carried.{replyBytes}
 use Rattle.negotiation.proofs.Replies.{reply-long}
-use Rattle.bulletin.specs.Kept.{viewBulletin}
+use Rattle.bulletin.specs.Refinement.{viewBulletin}
 use Rattle.bulletin.specs.Network.{sideMoved}
 use Rattle.bulletin.specs.Calls.{askCall}
 use Rattle.bulletin.proofs.Limits.{move-fits}
@@ -48,8 +48,8 @@ enum-known-asking-2 c = search needs
 asked-whose-requires : tie.Need-asked-whose-requires
 asked-whose-requires c κs = search needs
 
-replied-requires : tie.Need-replied-requires
-replied-requires c κs =
+moved-with-reply-requires : tie.Need-moved-with-reply-requires
+moved-with-reply-requires c κs =
     let asking = c .before .before .before in
     let side = asking .before .before .before .before .before in
     let lent = side .before in
@@ -82,7 +82,7 @@ returns-3 c =
     let asked = asking .before .before in
     let enable = asked .before .before in
     rw (has-room (enable .before .before), ← sent .before .before .asked-whose .ensures, ← enable .asked-enable .ensures, ← enable .before .asked-side .ensures, sym (asked .asking-of .ensures) ∙ asking .asking2 .given .1, c .done .ensures .0)
-    (done-on-wire refl (sent .replied .ensures) (c .done .ensures .1))
+    (done-on-wire refl (sent .moved-with-reply .ensures) (c .done .ensures .1))
 
 pub ask-spec : {M : Type 1} → statement M
 ask-spec =
@@ -98,7 +98,7 @@ ask-spec =
     refused-requires-2
     enum-known-asking-2
     asked-whose-requires
-    replied-requires
+    moved-with-reply-requires
     done-requires
     returns-2
     same-length

@@ -3,14 +3,14 @@ use mathlib.Core.Bool.{true, false}
 use mathlib.Core.List.{List, [], _∷_, _++_}
 use borrow.Author.Tests.{not-true, not-false}
 use lib.ListN.{length}
-use Rattle.codes.specs.Answers.{Guard, when, refusalOf}
+use Rattle.codes.specs.Answers.{Guard, refusedIf, refusalOf}
 use Rattle.codes.specs.declared.Code.the-variants.{TooLong}
 use Rattle.codes.specs.declared.Note.the-variants.{Clear}
 use Rattle.codes.proofs.Guards.{NoneHolds, first-holds, first-passed, none-holds, earlier-stop, earlier-pass, test-stops, test-passes}
-use Rattle.definitions.specs.Sending.{isTooLong, definingBytes}
-use Rattle.definitions.specs.Kept.{viewTable}
-use Rattle.bulletin.specs.declared.Bulletin as code-bulletin
-use Rattle.bulletin.specs.Kept.{viewBulletin, stepOf}
+use Rattle.sent_macros.specs.Sending.{isTooLong, definingBytes}
+use Rattle.sent_macros.specs.Refinement.{viewTable}
+use Rattle.bulletin.specs.declared.Bulletin.{Bulletin}
+use Rattle.bulletin.specs.Refinement.{viewBulletin, stepOf}
 use Rattle.bulletin.specs.Calls.{defineGuardsBeforeSize, defineCall}
 use Rattle.bulletin.proofs.Limits.{defining-fits}
 use Rattle.bulletin.proofs.Meeting.{met-step, met-table}
@@ -24,7 +24,7 @@ abbrev earlier : tie.Start → List Guard
 earlier c = defineGuardsBeforeSize (viewBulletin (c .args .s)) (c .args .x) (length (c .args .wire .now))
 
 abbrev size : tie.Start → Guard
-size c = when (isTooLong (viewTable (c .args .s .table)) (c .args .x) (c .args .text .now)) TooLong
+size c = refusedIf (isTooLong (viewTable (c .args .s .table)) (c .args .x) (c .args .text .now)) TooLong
 
 abbrev guards : tie.Start → List Guard
 guards c = earlier c ++ size c ∷ []
@@ -105,7 +105,7 @@ returns-3 c =
     let first = earlier-pass (earlier start) (size start ∷ []) (none-earlier go) ∙ first-passed (size start) [] (short fits) in
     let wire = rw (short fits) at (made .define .ensures .wire) in
     let table = rw (short fits) at (made .define .ensures .table) in
-    let stepped = c .before .step .ensures ∙ ap (λ (t : code-bulletin.Bulletin). stepOf Clear (made .define .result .wire) t) (c .before .before .with-table .ensures) in
+    let stepped = c .before .step .ensures ∙ ap (λ (t : Bulletin). stepOf Clear (made .define .result .wire) t) (c .before .before .with-table .ensures) in
     rw (c .done .ensures .0)
     (passed-on-wire (guards start) _ (sym first) refl (refl, (refl, (refl, (refl, (refl, tt))))) refl
     (done-on-wire stepped (met-step Clear (met-table table) wire) (c .done .ensures .1)))

@@ -2,7 +2,7 @@ use mathlib.Core.Path.{sym, ap, _∙_}
 use mathlib.Core.Bool.{not}
 use borrow.Author.Tests.{eq-eqb, ne-eqb}
 use Rattle.codes.specs.Answers.{refusalOf}
-use Rattle.definitions.proofs.Views.{pending-bare}
+use Rattle.sent_macros.proofs.Views.{pending-bare}
 use borrow.Author.Needs.{needs}
 use Rattle.bulletin.proofs.calls.define_refusal.Statement.{statement}
 use Rattle.bulletin.proofs.calls.define_refusal.Tie as tie

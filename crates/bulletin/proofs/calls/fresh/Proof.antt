@@ -15,13 +15,7 @@ unspoken-requires : tie.Need-unspoken-requires
 unspoken-requires c κs = search needs
 
 returns : tie.Need-returns
-returns c =
-    let none = c .before .none in
-    record {
-      view = rw (c .before .before .before .all-no .ensures, c .before .before .idle .ensures .view, none .ensures .0, c .unspoken .ensures);
-      clean = record { reader = c .before .before .idle .ensures .clean; table = none .ensures .1 };
-      whole = record { body = search needs; table = search needs };
-    }
+returns c = rw (c .before .before .before .all-no .ensures, c .before .before .idle .ensures, c .before .none .ensures, c .unspoken .ensures)
 
 pub fresh-spec : {M : Type 1} → statement M
 fresh-spec =

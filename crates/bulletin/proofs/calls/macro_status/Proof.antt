@@ -1,7 +1,7 @@
 use mathlib.Core.Path.{sym, ap, _∙_}
 use Rattle.lists.proofs.Uniform.{getD-uniform}
-use Rattle.definitions.specs.Sending.{Sent, free, statusOf}
-use Rattle.definitions.proofs.Views.{status-at}
+use Rattle.sent_macros.specs.Sending.{Sent, free, statusOf}
+use Rattle.sent_macros.proofs.Views.{status-at}
 use borrow.Author.Needs.{needs}
 use Rattle.bulletin.proofs.calls.macro_status.Statement.{statement}
 use Rattle.bulletin.proofs.calls.macro_status.Tie as tie

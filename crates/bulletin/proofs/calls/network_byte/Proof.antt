@@ -2,7 +2,7 @@ use mathlib.Core.Path.{_≡_, sym, _∙_}
 use mathlib.Core.Bool.{false}
 use lib.ListN.{length}
 use Rattle.codes.specs.Answers.{noRoom, guarded}
-use Rattle.bulletin.specs.Kept.{viewBulletin}
+use Rattle.bulletin.specs.Refinement.{viewBulletin}
 use Rattle.bulletin.specs.Network.{networkRead}
 use Rattle.bulletin.specs.Calls.{networkCall}
 use Rattle.bulletin.proofs.Limits.{network-fits}

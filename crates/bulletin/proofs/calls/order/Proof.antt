@@ -4,7 +4,7 @@ use mathlib.Core.Path.{refl}
 use lib.ListN.{length}
 use Rattle.codes.specs.declared.Note.the-variants.{Clear}
 use Rattle.codes.proofs.Guards.{none-holds, test-passes}
-use Rattle.bulletin.specs.Kept.{viewBulletin}
+use Rattle.bulletin.specs.Refinement.{viewBulletin}
 use Rattle.bulletin.specs.Calls.{orderBytes, orderGuards, orderCall}
 use Rattle.bulletin.proofs.Limits.{order-fits}
 use Rattle.bulletin.proofs.Meeting.{met-same, met-step}

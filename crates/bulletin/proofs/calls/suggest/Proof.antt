@@ -2,14 +2,14 @@ use mathlib.Core.Path.{_≡_, refl, sym, _∙_}
 use mathlib.Core.Bool.{false}
 use mathlib.Core.List.{List, _∷_}
 use lib.ListN.{length}
-use Rattle.codes.specs.Answers.{Guard, when, noWire, refusalOf}
+use Rattle.codes.specs.Answers.{Guard, refusedIf, noWire, refusalOf}
 use Rattle.codes.specs.declared.Code.the-variants.{NoRoom}
 use Rattle.codes.specs.declared.Note.the-variants.{Clear}
 use Rattle.codes.specs.Telnet.{DS}
 use Rattle.codes.proofs.Guards.{first-holds, first-passed}
 use Rattle.disposition.specs.Returns.{suggestion, suggestGuards}
-use Rattle.bulletin.specs.State.{returnsOn}
-use Rattle.bulletin.specs.Kept.{viewBulletin}
+use Rattle.bulletin.specs.State.{naocrdInForce}
+use Rattle.bulletin.specs.Refinement.{viewBulletin}
 use Rattle.bulletin.specs.Calls.{suggestCall}
 use Rattle.bulletin.proofs.Limits.{suggestion-fits}
 use Rattle.bulletin.proofs.Meeting.{met-step}
@@ -20,10 +20,10 @@ use Rattle.bulletin.proofs.calls.suggest.Statement.{statement}
 use Rattle.bulletin.proofs.calls.suggest.Tie as tie
 
 abbrev room : tie.Start → Guard
-room c = when (noWire (length (c .args .wire .now))) NoRoom
+room c = refusedIf (noWire (length (c .args .wire .now))) NoRoom
 
 abbrev others : tie.Start → List Guard
-others c = suggestGuards (returnsOn (viewBulletin (c .args .s))) (c .args .s .values .ds) (c .args .v)
+others c = suggestGuards (naocrdInForce (viewBulletin (c .args .s))) (c .args .s .values .ds) (c .args .v)
 
 has-room : (c : tie.Else1) → noWire (length (c .before .before .before .args .wire .now)) ≡ false
 has-room c = sym (c .before .no-wire .ensures) ∙ c .if1 .left

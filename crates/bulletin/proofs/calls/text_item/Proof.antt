@@ -4,7 +4,7 @@ use lib.ListN.{length}
 use Rattle.codes.specs.Answers.{Guard}
 use Rattle.codes.specs.declared.Note.the-variants.{Clear}
 use Rattle.codes.proofs.Guards.{none-holds, test-passes}
-use Rattle.bulletin.specs.Kept.{viewBulletin}
+use Rattle.bulletin.specs.Refinement.{viewBulletin}
 use Rattle.bulletin.specs.Calls.{itemSent, textGuards, textCall}
 use Rattle.bulletin.proofs.Limits.{item-fits}
 use Rattle.bulletin.proofs.Meeting.{met-step, met-awaiting}

@@ -8,7 +8,7 @@ use Rattle.codes.specs.Answers.{Guard}
 use Rattle.codes.specs.declared.Note.the-variants.{Clear}
 use Rattle.codes.proofs.Guards.{none-holds, test-passes}
 use Rattle.codes.proofs.Rooms.{wire-lent}
-use Rattle.bulletin.specs.Kept.{viewBulletin}
+use Rattle.bulletin.specs.Refinement.{viewBulletin}
 use Rattle.bulletin.specs.Calls.{useGuards, useCall}
 use Rattle.bulletin.proofs.Meeting.{met-same, met-step}
 use Rattle.bulletin.proofs.Answering.{stopped-on-wire, passed-on-wire, done-on-wire}

@@ -1,7 +1,7 @@
 use mathlib.Core.Path.{sym, ap, _∙_}
 use mathlib.Core.Bool.{not}
 use Rattle.codes.specs.Answers.{refusalOf}
-use Rattle.definitions.proofs.Views.{accepted-bare}
+use Rattle.sent_macros.proofs.Views.{accepted-bare}
 use borrow.Author.Needs.{needs}
 use Rattle.bulletin.proofs.calls.use_refusal.Statement.{statement}
 use Rattle.bulletin.proofs.calls.use_refusal.Tie as tie

@@ -5,7 +5,7 @@ use lib.ListN.{length-take}
 use Rattle.lists.proofs.ReadOff.{read-off, within-after}
 use Rattle.keys.specs.Keys.{isCommand}
 use Rattle.bulletin.specs.State.{definitionsNow, handlingNow}
-use Rattle.bulletin.specs.Kept.{viewBulletin}
+use Rattle.bulletin.specs.Refinement.{viewBulletin}
 use Rattle.bulletin.proofs.LimitsBytes.{data-long}
 use Rattle.bulletin.proofs.ItemBytes.{command-bytes, character-bytes}
 use borrow.Author.Needs.{needs}

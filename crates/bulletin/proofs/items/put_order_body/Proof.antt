@@ -2,7 +2,7 @@ use mathlib.Core.List.{List, [], _∷_}
 use Prim.Native.Nat.{ℕ, _≤_}
 use native.Mathlib.Omega.{arith}
 use lib.ListN.{length, set, length-set}
-use Rattle.lists.specs.Buffers.{Wrote}
+use Rattle.lists.specs.Buffers.{lentAs, WroteAtStart}
 use Rattle.lists.proofs.Starts.{wrote-start}
 use Rattle.lists.proofs.Parts.{same-long}
 use Rattle.lists.proofs.Behind.{rest-room, wrote-both}
@@ -14,7 +14,7 @@ use Rattle.bulletin.proofs.items.put_order_body.Tie as tie
 two : (c : tie.Start) → 2 ≤ length (c .args .out .now)
 two c = omega (arith, c .pre)
 
-head : (c : tie.Start) → Wrote (7 ∷ c .args .cmd ∷ []) (c .args .out .now) (set (set (c .args .out .now) 0 7) 1 (c .args .cmd)) 2
+head : (c : tie.Start) → WroteAtStart (7 ∷ c .args .cmd ∷ []) (lentAs (c .args .out .now) (set (set (c .args .out .now) 0 7) 1 (c .args .cmd))) 2
 head c = wrote-start (7 ∷ c .args .cmd ∷ []) (c .args .out .now) (two c)
 
 abbrev pairs : tie.Start → List ℕ

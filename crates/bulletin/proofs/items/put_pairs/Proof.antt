@@ -1,6 +1,6 @@
 use mathlib.Core.List.{List}
 use Prim.Native.Nat.{ℕ}
-use Rattle.lists.specs.Buffers.{Wrote}
+use Rattle.lists.specs.Buffers.{lentAs, WroteAtStart}
 use native.Mathlib.Omega.{arith}
 use Rattle.lists.proofs.Behind.{room-front, rest-start, rest-room, wrote-both, both-within}
 use Rattle.bodies.specs.RcteBodies.{setsBreaks, setsSends}
@@ -15,7 +15,7 @@ first c = pairBytes (setsBreaks (c .args .cmd)) (c .args .breaks)
 abbrev second : tie.Start → List ℕ
 second c = pairBytes (setsSends (c .args .cmd)) (c .args .sends)
 
-wrote-first : (c : tie.After-put-pair) → Wrote (first (c .before .before .before .before)) (c .before .before .before .before .args .out .now) (c .put-pair .last .1 .1 .0) (c .put-pair .result)
+wrote-first : (c : tie.After-put-pair) → WroteAtStart (first (c .before .before .before .before)) (lentAs (c .before .before .before .before .args .out .now) (c .put-pair .last .1 .1 .0)) (c .put-pair .result)
 wrote-first c = rw (c .before .before .sets-breaks .ensures) at (c .put-pair .ensures)
 
 sets-breaks-requires : tie.Need-sets-breaks-requires

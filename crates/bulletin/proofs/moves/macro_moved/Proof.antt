@@ -1,5 +1,6 @@
 use mathlib.Core.Path.{refl, sym, _∙_}
 use borrow.Author.Needs.{needs}
+use Rattle.sent_macros.proofs.Views.{free-view, free-clean}
 use Rattle.bulletin.proofs.moves.macro_moved.Statement.{statement}
 use Rattle.bulletin.proofs.moves.macro_moved.Tie as tie
 
@@ -20,7 +21,7 @@ none-requires c κs = search needs
 returns-2 : tie.Need-returns-2
 returns-2 c =
     rw (c .before .before .before .moved .ensures, sym (c .before .before .is-yes .ensures) ∙ c .before .if1 .left)
-    (record { view = rw (c .none .ensures .0); clean = λ k. record { reader = k .reader; table = c .none .ensures .1 } })
+    (record { view = rw (c .none .ensures, free-view); clean = λ k. record { reader = k .reader; table = rw (c .none .ensures) free-clean } })
 
 pub macro-moved-spec : {M : Type 1} → statement M
 macro-moved-spec =

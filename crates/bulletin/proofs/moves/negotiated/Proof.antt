@@ -6,9 +6,9 @@ use Rattle.bulletin.proofs.moves.negotiated.Tie as tie
 heard-by-requires : tie.Need-heard-by-requires
 heard-by-requires c κs = search needs
 
-replied-requires : tie.Need-replied-requires
+moved-with-reply-requires : tie.Need-moved-with-reply-requires
 unfolding negotiationRead
-replied-requires c κs = rw (← c .before .heard-by .ensures) at (c .before .before .before .before .pre)
+moved-with-reply-requires c κs = rw (← c .before .heard-by .ensures) at (c .before .before .before .before .pre)
 
 same-length : tie.Need-same-length
 same-length c = search needs
@@ -17,7 +17,7 @@ returns : tie.Need-returns
 unfolding negotiationRead
 returns c =
     let sent = c .before .before in
-    rw (← sent .before .before .heard-by .ensures) (sent .replied .ensures)
+    rw (← sent .before .before .heard-by .ensures) (sent .moved-with-reply .ensures)
 
 pub negotiated-spec : {M : Type 1} → statement M
-negotiated-spec = tie.close (tie.spec heard-by-requires replied-requires same-length returns)
+negotiated-spec = tie.close (tie.spec heard-by-requires moved-with-reply-requires same-length returns)

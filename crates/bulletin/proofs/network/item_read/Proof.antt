@@ -1,5 +1,5 @@
 use Rattle.codes.specs.declared.Note.the-variants.{Clear, Stray}
-use Rattle.bulletin.proofs.Meeting.{met-same, met-quietly}
+use Rattle.bulletin.proofs.Meeting.{met-same, met-unwritten}
 use borrow.Author.Needs.{needs}
 use Rattle.bulletin.proofs.network.item_read.Statement.{statement}
 use Rattle.bulletin.proofs.network.item_read.Tie as tie
@@ -35,7 +35,7 @@ step-requires-2 : tie.Need-step-requires-2
 step-requires-2 c κs = search needs
 
 returns : tie.Need-returns
-returns c = rw (c .before .enum-told .given .1, c .step .ensures) (met-quietly Clear met-same .met _ .met _)
+returns c = rw (c .before .enum-told .given .1, c .step .ensures) (met-unwritten Clear met-same .met _ .met _)
 
 same-length : tie.Need-same-length
 same-length c = search needs
@@ -56,7 +56,7 @@ returns-4 : tie.Need-returns-4
 returns-4 c = let sent = c .before .before in rw (sent .before .before .enum-told2 .given .1) (sent .body-read .ensures .met _)
 
 returns-5 : tie.Need-returns-5
-returns-5 c = rw (c .before .enum-told3 .given .1, c .step2 .ensures) (met-quietly Stray met-same .met _ .met _)
+returns-5 c = rw (c .before .enum-told3 .given .1, c .step2 .ensures) (met-unwritten Stray met-same .met _ .met _)
 
 pub item-read-spec : {M : Type 1} → statement M
 item-read-spec =

@@ -1,5 +1,5 @@
-use Rattle.reader.specs.Kept.{viewReader}
-use Rattle.bulletin.specs.Kept.{viewBulletin}
+use Rattle.reader.specs.Refinement.{viewReader}
+use Rattle.bulletin.specs.Refinement.{viewBulletin}
 use Rattle.bulletin.proofs.Bodies.{byte-item}
 use borrow.Author.Needs.{needs}
 use Rattle.bulletin.proofs.network.network_read.Statement.{statement}

@@ -20,8 +20,8 @@ returns-2 : tie.Need-returns-2
 unfolding askingOf guarded
 returns-2 c = rw (ap not (sym (c .before .before .before .is-carried .ensures)) ∙ c .before .before .if1 .left, sym (c .before .clashes .ensures) ∙ c .if2 .taken)
 
-standing-of-requires : tie.Need-standing-of-requires
-standing-of-requires c κs = search needs
+state-of-requires : tie.Need-state-of-requires
+state-of-requires c κs = search needs
 
 ask-requires : tie.Need-ask-requires
 ask-requires c κs = search needs
@@ -36,13 +36,13 @@ returns-3 : tie.Need-returns-3
 unfolding askingOf guarded
 returns-3 c =
     let clash = c .before .before .before .before in
-    rw (ap not (sym (clash .before .before .before .is-carried .ensures)) ∙ clash .before .before .if1 .left, sym (clash .before .clashes .ensures) ∙ clash .if2 .left, ← c .before .before .before .standing-of .ensures, sym (c .before .before .ask .ensures) ∙ c .enum-told .given .1)
+    rw (ap not (sym (clash .before .before .before .is-carried .ensures)) ∙ clash .before .before .if1 .left, sym (clash .before .clashes .ensures) ∙ clash .if2 .left, ← c .before .before .before .state-of .ensures, sym (c .before .before .ask .ensures) ∙ c .enum-told .given .1)
 
 returns-4 : tie.Need-returns-4
 unfolding askingOf guarded
 returns-4 c =
     let clash = c .before .before .before .before .before in
-    rw (ap not (sym (clash .before .before .before .is-carried .ensures)) ∙ clash .before .before .if1 .left, sym (clash .before .clashes .ensures) ∙ clash .if2 .left, ← c .before .before .before .before .standing-of .ensures, sym (c .before .before .before .ask .ensures) ∙ c .before .asked .given .1)
+    rw (ap not (sym (clash .before .before .before .is-carried .ensures)) ∙ clash .before .before .if1 .left, sym (clash .before .clashes .ensures) ∙ clash .if2 .left, ← c .before .before .before .before .state-of .ensures, sym (c .before .before .before .ask .ensures) ∙ c .before .asked .given .1)
 
 pub asking-of-spec : {M : Type 1} → statement M
 asking-of-spec =
@@ -52,7 +52,7 @@ asking-of-spec =
     returns
     clashes-requires
     returns-2
-    standing-of-requires
+    state-of-requires
     ask-requires
     enum-told
     enum-known-asked

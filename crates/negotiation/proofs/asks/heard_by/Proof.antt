@@ -16,11 +16,11 @@ carried-side-requires c κs = search needs
 is-carried-requires : tie.Need-is-carried-requires
 is-carried-requires c κs = search needs
 
-free-requires : tie.Need-free-requires
-free-requires c κs = search needs
+may-enable-requires : tie.Need-may-enable-requires
+may-enable-requires c κs = search needs
 
-standing-of-requires : tie.Need-standing-of-requires
-standing-of-requires c κs = search needs
+state-of-requires : tie.Need-state-of-requires
+state-of-requires c κs = search needs
 
 hear-requires : tie.Need-hear-requires
 hear-requires c κs = search needs
@@ -30,7 +30,7 @@ unfolding heardBy
 returns c =
     let carried = c .before .before .before in
     let side = carried .before .before in
-    rw (← side .before .before .whose-of .ensures, ← side .before .enables .ensures, ← side .carried-side .ensures, sym (carried .before .is-carried .ensures) ∙ carried .if1 .taken, ← c .before .before .free .ensures, ← c .before .standing-of .ensures, ← c .hear .ensures)
+    rw (← side .before .before .whose-of .ensures, ← side .before .enables .ensures, ← side .carried-side .ensures, sym (carried .before .is-carried .ensures) ∙ carried .if1 .taken, ← c .before .before .may-enable .ensures, ← c .before .state-of .ensures, ← c .hear .ensures)
 
 declined-requires : tie.Need-declined-requires
 declined-requires c κs = search needs
@@ -50,8 +50,8 @@ heard-by-spec =
     enables-requires
     carried-side-requires
     is-carried-requires
-    free-requires
-    standing-of-requires
+    may-enable-requires
+    state-of-requires
     hear-requires
     returns
     declined-requires

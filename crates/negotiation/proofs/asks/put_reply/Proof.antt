@@ -1,4 +1,5 @@
 use borrow.Author.Needs.{needs}
+use Rattle.lists.proofs.Starts.{wrote-none}
 use Rattle.negotiation.proofs.asks.put_reply.Statement.{statement}
 use Rattle.negotiation.proofs.asks.put_reply.Tie as tie
 
@@ -24,7 +25,7 @@ put-negotiation-requires-2 : tie.Need-put-negotiation-requires-2
 put-negotiation-requires-2 c κs = rw (c .before .before .enum-told3 .given .1) at (c .before .before .before .before .before .pre)
 
 returns : tie.Need-returns
-returns c = search needs
+returns c = rw (c .enum-told .given .1) (wrote-none _)
 
 same-length : tie.Need-same-length
 same-length c = search needs

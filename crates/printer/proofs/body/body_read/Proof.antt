@@ -1,10 +1,11 @@
-use mathlib.Core.Path.{_≡_}
+use mathlib.Core.Path.{_≡_, ap}
 use native.Mathlib.Omega.{arith}
 use lib.ListN.{length, length-take}
-use Rattle.reader.specs.Kept.{viewReader}
-use Rattle.printer.specs.Kept.{viewPrinter}
+use Rattle.reader.specs.Refinement.{viewReader}
+use Rattle.printer.specs.Refinement.{viewPrinter}
 use Rattle.printer.proofs.Bodies.{body-end}
 use borrow.Author.Needs.{needs}
+use Rattle.reader.proofs.IdleReader.{idle-clean}
 use Rattle.printer.proofs.body.body_read.Statement.{statement}
 use Rattle.printer.proofs.body.body_read.Tie as tie
 
@@ -35,7 +36,7 @@ handled-requires c κs =
     let checks = c .before .before .before .before .before .before in
     let start = checks .before .before .before .before .before in
     let idle = c .before .before .before .before .before .idle in
-    rw (body-end (viewPrinter (start .args .s)) (viewReader (idle .result)) (checks .body-checked .result) (idle .ensures .view) (checks .body-checked .ensures), ← c .before .before .before .body-len .ensures) at (start .pre)
+    rw (body-end (viewPrinter (start .args .s)) (viewReader (idle .result)) (checks .body-checked .result) (ap viewReader (idle .ensures)) (checks .body-checked .ensures), ← c .before .before .before .body-len .ensures) at (start .pre)
 
 same-length : tie.Need-same-length
 same-length c = search needs
@@ -49,8 +50,8 @@ returns c =
     let start = checks .before .before .before .before .before in
     let idle = c .before .before .before .before .before .before .before .before .before .before .idle in
     let e = c .before .before .before .before .handled .ensures in
-    rw (body-end (viewPrinter (start .args .s)) (viewReader (idle .result)) (checks .body-checked .result) (idle .ensures .view) (checks .body-checked .ensures), ← c .before .before .before .before .before .before .before .before .body-len .ensures)
-    (record { note = e .note; wrote = e .wrote; view = e .view; clean = λ k. e .clean (record { reader = idle .ensures .clean; table = k .table; echo = k .echo }) })
+    rw (body-end (viewPrinter (start .args .s)) (viewReader (idle .result)) (checks .body-checked .result) (ap viewReader (idle .ensures)) (checks .body-checked .ensures), ← c .before .before .before .before .before .before .before .before .body-len .ensures)
+    (record { note = e .note; wrote = e .wrote; view = e .view; clean = λ k. e .clean (record { reader = rw (idle .ensures) idle-clean; table = k .table; rcte = k .rcte }) })
 
 pub body-read-spec : {M : Type 1} → statement M
 body-read-spec =

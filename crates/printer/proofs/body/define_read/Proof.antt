@@ -5,8 +5,8 @@ use Rattle.printer.proofs.body.define_read.Statement.{statement}
 use Rattle.printer.proofs.body.define_read.Tie as tie
 use Rattle.printer.proofs.body.define_read.Reads as reads
 use Rattle.printer.proofs.body.define_read.Lts as lts
-use Rattle.macros.proofs.define.Reads as define-reads
-use Rattle.macros.proofs.put_verdict.Reads as put-verdict-reads
+use Rattle.received_macros.proofs.define.Reads as define-reads
+use Rattle.received_macros.proofs.put_verdict.Reads as put-verdict-reads
 
 define-requires : tie.Need-define-requires
 define-requires c κs = search needs
@@ -25,7 +25,7 @@ returns c =
         note = refl;
         wrote = record { paper = wrote-none paper; wire = rw (d .verdict) at (c .before .before .put-verdict .ensures) };
         view = rw (d .table);
-        clean = λ k. record { reader = k .reader; table = d .clean (k .table); echo = k .echo };
+        clean = λ k. record { reader = k .reader; table = d .clean (k .table); rcte = k .rcte };
       };
     }
 

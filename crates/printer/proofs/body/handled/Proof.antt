@@ -1,5 +1,5 @@
 use mathlib.Core.Path.{refl}
-use Rattle.printer.proofs.Meeting.{met-quietly}
+use Rattle.printer.proofs.Meeting.{met-unwritten}
 use borrow.Author.Needs.{needs}
 use Rattle.printer.proofs.body.handled.Statement.{statement}
 use Rattle.printer.proofs.body.handled.Tie as tie
@@ -7,8 +7,8 @@ use Rattle.printer.proofs.body.handled.Tie as tie
 enum-known-checked : tie.Need-enum-known-checked
 enum-known-checked c = search needs
 
-quiet-requires : tie.Need-quiet-requires
-quiet-requires c κs = search needs
+note-alone-requires : tie.Need-note-alone-requires
+note-alone-requires c κs = search needs
 
 enum-told : tie.Need-enum-told
 enum-told c = search needs
@@ -29,7 +29,7 @@ macro-read-requires : tie.Need-macro-read-requires
 macro-read-requires c κs = rw (c .before .before .enum-told3 .given .1) at (c .before .before .before .before .before .before .before .pre)
 
 returns : tie.Need-returns
-returns c = rw (c .before .before .checked .given .1, c .quiet .ensures) (met-quietly _ _ _ _ refl (λ k. k) .met _ _)
+returns c = rw (c .before .before .checked .given .1, c .note-alone .ensures) (met-unwritten _ _ _ _ refl (λ k. k) .met _ _)
 
 same-length : tie.Need-same-length
 same-length c = search needs
@@ -57,7 +57,7 @@ handled-spec =
     tie.close
     (tie.spec
     enum-known-checked
-    quiet-requires
+    note-alone-requires
     enum-told
     rcte-read-requires
     enum-told-2

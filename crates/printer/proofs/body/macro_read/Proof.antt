@@ -1,7 +1,7 @@
 use Rattle.printer.proofs.Bodies.{readable-long, rest-all}
 use Rattle.bodies.specs.declared.MacroCommand.{MacroCommand}
 use Rattle.bodies.specs.declared.MacroBody.{MacroBody}
-use Rattle.printer.proofs.Meeting.{met-quietly}
+use Rattle.printer.proofs.Meeting.{met-unwritten}
 use native.Mathlib.Omega.{arith}
 use mathlib.Core.Path.{refl, sym, ap, _∙_}
 use borrow.Author.Needs.{needs}
@@ -11,7 +11,7 @@ use Rattle.printer.proofs.body.macro_read.Reads as reads
 use Rattle.printer.proofs.body.macro_read.Lts as lts
 use Rattle.bodies.proofs.macro_body.Reads as macro-body-reads
 use Rattle.printer.proofs.body.define_read.Reads as define-read-reads
-use Rattle.printer.proofs.moves.quiet.Reads as quiet-reads
+use Rattle.printer.proofs.moves.note_alone.Reads as quiet-reads
 use Rattle.printer.proofs.network.data_read.Reads as data-read-reads
 
 macro-body-requires : tie.Need-macro-body-requires
@@ -23,11 +23,11 @@ enum-known-command c = search needs
 enum-told : tie.Need-enum-told
 enum-told c = search needs
 
-quiet-requires : tie.Need-quiet-requires
-quiet-requires c κs = search needs
+note-alone-requires : tie.Need-note-alone-requires
+note-alone-requires c κs = search needs
 
 returns : tie.Need-returns
-returns c = rw (sym (c .before .before .before .macro-body .ensures) ∙ c .before .enum-told .given .1, c .quiet .ensures) (met-quietly _ _ _ _ refl (λ k. k) .met _ _)
+returns c = rw (sym (c .before .before .before .macro-body .ensures) ∙ c .before .enum-told .given .1, c .note-alone .ensures) (met-unwritten _ _ _ _ refl (λ k. k) .met _ _)
 
 enum-known-command-2 : tie.Need-enum-known-command-2
 enum-known-command-2 c = search needs
@@ -90,7 +90,7 @@ macro-read-spec =
     macro-body-requires
     enum-known-command
     enum-told
-    quiet-requires
+    note-alone-requires
     returns
     enum-known-command-2
     sub-define-read

@@ -1,4 +1,4 @@
-use Rattle.printer.proofs.Meeting.{met-quietly}
+use Rattle.printer.proofs.Meeting.{met-unwritten}
 use mathlib.Core.Path.{refl, sym, _∙_}
 use borrow.Author.Needs.{needs}
 use Rattle.printer.proofs.body.rcte_read.Statement.{statement}
@@ -6,8 +6,8 @@ use Rattle.printer.proofs.body.rcte_read.Tie as tie
 use Rattle.printer.proofs.body.rcte_read.Reads as reads
 use Rattle.printer.proofs.body.rcte_read.Lts as lts
 use Rattle.bodies.proofs.rcte_body.Reads as rcte-body-reads
-use Rattle.echo.proofs.commanded.Reads as commanded-reads
-use Rattle.printer.proofs.moves.quiet.Reads as quiet-reads
+use Rattle.rcte.proofs.commanded.Reads as commanded-reads
+use Rattle.printer.proofs.moves.note_alone.Reads as quiet-reads
 
 rcte-body-requires : tie.Need-rcte-body-requires
 rcte-body-requires c κs = search needs
@@ -18,11 +18,11 @@ enum-known-command c = search needs
 enum-told : tie.Need-enum-told
 enum-told c = search needs
 
-quiet-requires : tie.Need-quiet-requires
-quiet-requires c κs = search needs
+note-alone-requires : tie.Need-note-alone-requires
+note-alone-requires c κs = search needs
 
 returns : tie.Need-returns
-returns c = rw (sym (c .before .before .before .rcte-body .ensures) ∙ c .before .enum-told .given .1, c .quiet .ensures) (met-quietly _ _ _ _ refl (λ k. k) .met _ _)
+returns c = rw (sym (c .before .before .before .rcte-body .ensures) ∙ c .before .enum-told .given .1, c .note-alone .ensures) (met-unwritten _ _ _ _ refl (λ k. k) .met _ _)
 
 commanded-requires : tie.Need-commanded-requires
 commanded-requires c κs =
@@ -42,9 +42,9 @@ returns-2 c =
     rw (sym (c .before .before .before .before .before .before .before .before .before .before .before .before .rcte-body .ensures) ∙ c .before .before .before .before .before .before .before .before .before .before .command .given .1)
     (record {
       note = refl;
-      wrote = record { paper = e .paper; wire = e .wire };
-      view = rw (e .echo);
-      clean = λ k. record { reader = k .reader; table = k .table; echo = e .clean (k .echo) };
+      wrote = e .wrote;
+      view = rw (e .rcte);
+      clean = λ k. record { reader = k .reader; table = k .table; rcte = e .clean (k .rcte) };
     })
 
 pub rcte-read-spec : {M : Type 1} → statement M
@@ -54,7 +54,7 @@ rcte-read-spec =
     rcte-body-requires
     enum-known-command
     enum-told
-    quiet-requires
+    note-alone-requires
     returns
     commanded-requires
     same-length

@@ -1,8 +1,8 @@
 use mathlib.Core.Path.{sym, _∙_}
 use Rattle.codes.specs.Answers.{guarded}
 use Rattle.negotiation.specs.Carried.{replyBytes}
-use Rattle.printer.specs.Kept.{viewPrinter}
-use Rattle.printer.specs.Network.{replied}
+use Rattle.printer.specs.Refinement.{viewPrinter}
+use Rattle.printer.specs.Network.{movedWithReply}
 use Rattle.printer.specs.Calls.{askCall}
 use Rattle.negotiation.proofs.Replies.{reply-long}
 use Rattle.printer.proofs.Limits.{move-fits}
@@ -45,8 +45,8 @@ enum-known-asking-2 c = search needs
 asked-whose-requires : tie.Need-asked-whose-requires
 asked-whose-requires c κs = search needs
 
-replied-requires : tie.Need-replied-requires
-replied-requires c κs =
+moved-with-reply-requires : tie.Need-moved-with-reply-requires
+moved-with-reply-requires c κs =
     let whose = c .before .before .asked-whose .result in
     let moves = c .before .before .before .before .asking2 .given .0 in
     let side = c .before .before .before .before .before .before .before .before .before .asked-side .result in
@@ -84,7 +84,7 @@ returns-3 c =
     let room = side .before in
     let a = room .before .before .before .before .args in
     rw (sym (room .before .no-room .ensures) ∙ room .if1 .left, ← side .asked-side .ensures, ← asking .before .before .asked-enable .ensures, sym (asking .asking-of .ensures) ∙ moves .1, ← whose .ensures, c .done .ensures .0)
-    (met-done {d = replied (viewPrinter (a .s)) (side .asked-side .result) (moves .0 .0) (replyBytes (whose .result) (moves .0 .1 .0) (a .option))} (call .replied .ensures) (c .done .ensures .1))
+    (met-done {d = movedWithReply (viewPrinter (a .s)) (side .asked-side .result) (moves .0 .0) (replyBytes (whose .result) (moves .0 .1 .0) (a .option))} (call .moved-with-reply .ensures) (c .done .ensures .1))
 
 pub ask-spec : {M : Type 1} → statement M
 ask-spec =
@@ -100,7 +100,7 @@ ask-spec =
     refused-requires-2
     enum-known-asking-2
     asked-whose-requires
-    replied-requires
+    moved-with-reply-requires
     done-requires
     returns-2
     same-length

@@ -13,13 +13,13 @@ returns c =
     let state = step .1 .1 .1 .0 .1 .1 in
     let reader = state .1 .0 .1 .1 in
     let table = state .1 .1 .0 .1 .1 in
-    let echo = state .1 .1 .1 .0 .1 .1 in (
+    let rcte = state .1 .1 .1 .0 .1 .1 in (
       refl,
       record {
         body = sym (length-map (s .reader .body) (λ v. v)) ∙ reader .1 .1 .0 .1 .0 .1;
         cells = sym (length-map (s .table .cells) (λ v. v)) ∙ table .1 .0 .1 .0 .1;
-        waiting = sym (length-map (s .echo .waiting) (λ v. v)) ∙ echo .1 .1 .1 .1 .0 .1 .0 .1;
-        gathered = sym (length-map (s .echo .gathered) (λ v. v)) ∙ echo .1 .1 .1 .1 .1 .1 .0 .1 .0 .1;
+        waiting = sym (length-map (s .rcte .waiting) (λ v. v)) ∙ rcte .1 .1 .1 .1 .0 .1 .0 .1;
+        gathered = sym (length-map (s .rcte .gathered) (λ v. v)) ∙ rcte .1 .1 .1 .1 .1 .1 .0 .1 .0 .1;
       },
     )
 

@@ -32,9 +32,9 @@ returns c =
     rw (sym (at-if .before .rcte-in-force .ensures) ∙ at-if .if1 .taken)
     (record {
       note = refl;
-      wrote = record { paper = e .paper; wire = e .wire };
-      view = rw (e .echo);
-      clean = λ k. record { reader = k .reader; table = k .table; echo = e .clean (k .echo) };
+      wrote = e .wrote;
+      view = rw (e .rcte);
+      clean = λ k. record { reader = k .reader; table = k .table; rcte = e .clean (k .rcte) };
     })
 
 echo-in-force-requires : tie.Need-echo-in-force-requires
@@ -43,10 +43,10 @@ echo-in-force-requires c κs = search needs
 send-key-requires : tie.Need-send-key-requires
 unfolding keyTyped
 send-key-requires c κs =
-    let at-echo = c .before .before in
-    let at-if = at-echo .before in
+    let at-rcte = c .before .before in
+    let at-if = at-rcte .before in
     let start = at-if .before .before .before .before .before .before in
-    rw (sym (at-if .before .rcte-in-force .ensures) ∙ at-if .if1 .left, ← at-echo .echo-in-force .ensures) at (start .pre .1)
+    rw (sym (at-if .before .rcte-in-force .ensures) ∙ at-if .if1 .left, ← at-rcte .echo-in-force .ensures) at (start .pre .1)
 
 same-length-3 : tie.Need-same-length-3
 same-length-3 c = search needs
@@ -58,11 +58,11 @@ returns-2 : tie.Need-returns-2
 unfolding keyTyped
 returns-2 c =
     let at-call = c .before .before .before .before in
-    let at-echo = at-call .before .before .before in
-    let at-if = at-echo .before in
+    let at-rcte = at-call .before .before .before in
+    let at-if = at-rcte .before in
     let w = at-call .send-key .ensures in
-    rw (sym (at-if .before .rcte-in-force .ensures) ∙ at-if .if1 .left, ← at-echo .echo-in-force .ensures)
-    (record { note = refl; wrote = record { paper = w .paper; wire = w .wire }; view = refl; clean = λ k. k })
+    rw (sym (at-if .before .rcte-in-force .ensures) ∙ at-if .if1 .left, ← at-rcte .echo-in-force .ensures)
+    (record { note = refl; wrote = w; view = refl; clean = λ k. k })
 
 pub key-typed-spec : {M : Type 1} → statement M
 key-typed-spec =

@@ -3,7 +3,7 @@ use borrow.Author.Needs.{needs}
 use Rattle.lists.proofs.Starts.{wrote-none, wrote-start}
 use Rattle.codes.specs.Answers.{guarded}
 use Rattle.printer.specs.Calls.{networkCall}
-use Rattle.printer.specs.Kept.{viewPrinter}
+use Rattle.printer.specs.Refinement.{viewPrinter}
 use Rattle.printer.proofs.Limits.{network-fits}
 use Rattle.printer.proofs.Views.{sized-view, room-for}
 use Rattle.printer.proofs.Answering.{met-refused, met-done}

@@ -4,13 +4,13 @@ use borrow.Author.Tests.{not-true, not-false}
 use lib.Dec.{lit≤}
 use lib.ListN.{length}
 use Rattle.lists.proofs.Starts.{wrote-none}
-use Rattle.codes.specs.Answers.{noRoom, when, isDone, refusalOf, guarded}
+use Rattle.codes.specs.Answers.{noRoom, refusedIf, isDone, refusalOf, guarded}
 use Rattle.codes.specs.declared.Code.the-variants.{NoRoom}
 use Rattle.codes.specs.Telnet.{DR}
 use Rattle.codes.proofs.Guards.{guarded-refused, guarded-passed, guarded-done}
 use Rattle.disposition.specs.Returns.{suggestion, suggestGuards}
 use Rattle.printer.specs.State.{sends}
-use Rattle.printer.specs.Kept.{viewPrinter}
+use Rattle.printer.specs.Refinement.{viewPrinter}
 use Rattle.printer.specs.Calls.{suggestCall}
 use Rattle.printer.proofs.Limits.{suggestion-fits}
 use Rattle.printer.proofs.Views.{room-for}
@@ -51,7 +51,7 @@ returns-2 c =
     let room = found .before .before .before .before in
     let a = room .before .before .before .before .args in
     let gs = suggestGuards (on .result) (a .s .values .dr) (a .v) in
-    let first = when (noRoom (length (a .paper .now)) (length (a .wire .now))) NoRoom in
+    let first = refusedIf (noRoom (length (a .paper .now)) (length (a .wire .now))) NoRoom in
     let refuses : isDone (refusalOf gs) ≡ false = ap isDone (sym (found .suggest-refusal .ensures)) ∙ sym (c .before .before .is-done .ensures) ∙ not-true _ (c .before .if2 .taken) in
     rw (← on .ensures, guarded-passed _ _ first gs (sym (room .before .no-room .ensures) ∙ room .if1 .left), guarded-refused _ _ gs refuses, ← found .suggest-refusal .ensures, c .refused2 .ensures)
     met-refused
@@ -77,7 +77,7 @@ returns-3 c =
     let room = found .before .before .before .before in
     let a = room .before .before .before .before .args in
     let gs = suggestGuards (on .result) (a .s .values .dr) (a .v) in
-    let first = when (noRoom (length (a .paper .now)) (length (a .wire .now))) NoRoom in
+    let first = refusedIf (noRoom (length (a .paper .now)) (length (a .wire .now))) NoRoom in
     let none : isDone (refusalOf gs) ≡ true = ap isDone (sym (found .suggest-refusal .ensures)) ∙ sym (c .before .before .before .before .before .before .is-done .ensures) ∙ not-false _ (c .before .before .before .before .before .if2 .left) in
     rw (← on .ensures, guarded-passed _ _ first gs (sym (room .before .no-room .ensures) ∙ room .if1 .left), guarded-done _ _ gs (refl, (refl, (refl, tt))) none, c .with-dr .ensures)
     (record {
@@ -85,7 +85,7 @@ returns-3 c =
       note = refl;
       wrote = record { paper = wrote-none (a .paper .now); wire = c .before .before .before .put-suggestion .ensures };
       view = refl;
-      clean = λ k. record { reader = k .reader; table = k .table; echo = k .echo };
+      clean = λ k. record { reader = k .reader; table = k .table; rcte = k .rcte };
       whole = λ k. record { body = k .body; cells = k .cells; waiting = k .waiting; gathered = k .gathered };
       same = λ n. absurd (n refl);
     })

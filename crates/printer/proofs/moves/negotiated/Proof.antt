@@ -6,9 +6,9 @@ use Rattle.printer.proofs.moves.negotiated.Tie as tie
 heard-by-requires : tie.Need-heard-by-requires
 heard-by-requires c κs = search needs
 
-replied-requires : tie.Need-replied-requires
+moved-with-reply-requires : tie.Need-moved-with-reply-requires
 unfolding negotiationRead
-replied-requires c κs = rw (← c .before .before .heard-by .ensures) at (c .before .before .before .before .before .before .pre)
+moved-with-reply-requires c κs = rw (← c .before .before .heard-by .ensures) at (c .before .before .before .before .before .before .pre)
 
 same-length : tie.Need-same-length
 same-length c = search needs
@@ -18,8 +18,8 @@ same-length-2 c = search needs
 
 returns : tie.Need-returns
 unfolding negotiationRead
-returns c = rw (← c .before .before .before .before .before .before .before .heard-by .ensures) (c .before .before .before .before .replied .ensures)
+returns c = rw (← c .before .before .before .before .before .before .before .heard-by .ensures) (c .before .before .before .before .moved-with-reply .ensures)
 
 pub negotiated-spec : {M : Type 1} → statement M
 negotiated-spec =
-    tie.close (tie.spec heard-by-requires replied-requires same-length same-length-2 returns)
+    tie.close (tie.spec heard-by-requires moved-with-reply-requires same-length same-length-2 returns)

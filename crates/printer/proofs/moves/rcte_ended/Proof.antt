@@ -6,8 +6,8 @@ use Rattle.printer.proofs.moves.rcte_ended.Tie as tie
 echo-in-force-requires : tie.Need-echo-in-force-requires
 echo-in-force-requires c κs = search needs
 
-ended-requires : tie.Need-ended-requires
-ended-requires c κs = rw (c .before .before .before .echo-in-force .ensures) (c .before .before .before .before .before .before .before .pre)
+rcte-ended-requires : tie.Need-rcte-ended-requires
+rcte-ended-requires c κs = rw (c .before .before .before .echo-in-force .ensures) (c .before .before .before .before .before .before .before .pre)
 
 same-length : tie.Need-same-length
 same-length c = search needs
@@ -17,14 +17,14 @@ same-length-2 c = search needs
 
 returns : tie.Need-returns
 returns c =
-    let e = rw (c .before .before .before .before .before .before .before .before .before .echo-in-force .ensures) at (c .before .before .before .before .before .ended .ensures) in
+    let e = rw (c .before .before .before .before .before .before .before .before .before .echo-in-force .ensures) at (c .before .before .before .before .before .rcte-ended .ensures) in
     record {
       note = refl;
-      wrote = record { paper = e .paper; wire = e .wire };
-      view = rw (e .echo);
-      clean = λ k. record { reader = k .reader; table = k .table; echo = e .clean (k .echo) };
+      wrote = e .wrote;
+      view = rw (e .rcte);
+      clean = λ k. record { reader = k .reader; table = k .table; rcte = e .clean (k .rcte) };
     }
 
 pub rcte-ended-spec : {M : Type 1} → statement M
 rcte-ended-spec =
-    tie.close (tie.spec echo-in-force-requires ended-requires same-length same-length-2 returns)
+    tie.close (tie.spec echo-in-force-requires rcte-ended-requires same-length same-length-2 returns)

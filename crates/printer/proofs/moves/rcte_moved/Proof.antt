@@ -1,9 +1,10 @@
 use Rattle.printer.proofs.Steps.{rcte-ends}
-use Rattle.printer.specs.Kept.{viewPrinter}
+use Rattle.printer.specs.Refinement.{viewPrinter}
 use Rattle.printer.proofs.Meeting.{met-still}
 use Rattle.printer.specs.Network.{sideMoved}
 use mathlib.Core.Path.{refl, sym, _∙_}
 use borrow.Author.Needs.{needs}
+use Rattle.rcte.proofs.StartedEcho.{started-clean}
 use Rattle.printer.proofs.moves.rcte_moved.Statement.{statement}
 use Rattle.printer.proofs.moves.rcte_moved.Tie as tie
 
@@ -16,28 +17,27 @@ is-yes-requires c κs = search needs
 moved-requires : tie.Need-moved-requires
 moved-requires c κs = search needs
 
-quiet-requires : tie.Need-quiet-requires
-quiet-requires c κs = search needs
+note-alone-requires : tie.Need-note-alone-requires
+note-alone-requires c κs = search needs
 
 returns : tie.Need-returns
 unfolding sideMoved
 returns c =
     let rcte = c .before .before .before .before .before .rcte-in-force in
-    rw (sym (rcte .ensures) ∙ c .before .if2 .taken, sym (c .before .before .before .before .is-yes .ensures) ∙ c .before .before .if1 .taken, c .quiet .ensures, c .before .before .before .moved .ensures)
-    (met-still _ _ _ (record { view = refl; clean = λ k. record { reader = k .reader; table = k .table; echo = k .echo } }) _ _)
+    rw (sym (rcte .ensures) ∙ c .before .if2 .taken, sym (c .before .before .before .before .is-yes .ensures) ∙ c .before .before .if1 .taken, c .note-alone .ensures, c .before .before .before .moved .ensures)
+    (met-still _ _ _ (record { view = refl; clean = λ k. record { reader = k .reader; table = k .table; rcte = k .rcte } }) _ _)
 
 started-requires : tie.Need-started-requires
 started-requires c κs = search needs
 
-quiet-requires-2 : tie.Need-quiet-requires-2
-quiet-requires-2 c κs = search needs
+note-alone-requires-2 : tie.Need-note-alone-requires-2
+note-alone-requires-2 c κs = search needs
 
 returns-2 : tie.Need-returns-2
 unfolding sideMoved
 returns-2 c =
-    let t = c .before .started .ensures in
-    rw (sym (c .before .before .before .before .before .before .rcte-in-force .ensures) ∙ c .before .before .if2 .left, sym (c .before .before .before .before .before .is-yes .ensures) ∙ c .before .before .before .if1 .taken, c .quiet2 .ensures, c .before .before .before .before .moved .ensures)
-    (met-still _ _ _ (record { view = rw (t .echo); clean = λ k. record { reader = k .reader; table = k .table; echo = t .clean } }) _ _)
+    rw (sym (c .before .before .before .before .before .before .rcte-in-force .ensures) ∙ c .before .before .if2 .left, sym (c .before .before .before .before .before .is-yes .ensures) ∙ c .before .before .before .if1 .taken, c .note-alone2 .ensures, c .before .before .before .before .moved .ensures)
+    (met-still _ _ _ (record { view = rw (c .before .started .ensures); clean = λ k. record { reader = k .reader; table = k .table; rcte = rw (c .before .started .ensures) started-clean } }) _ _)
 
 rcte-ended-requires : tie.Need-rcte-ended-requires
 rcte-ended-requires c κs =
@@ -58,17 +58,17 @@ returns-3 : tie.Need-returns-3
 returns-3 c =
     let e = c .before .before .before .before .rcte-ended .ensures in
     rw (rcte-ends (viewPrinter (c .before .before .before .before .before .before .before .before .before .before .before .before .before .before .before .args .s)) (c .before .before .before .before .before .before .before .before .before .before .before .before .before .before .before .args .q) (c .before .before .before .before .before .before .before .before .before .moved .result) (sym (c .before .before .before .before .before .before .before .before .before .before .before .rcte-in-force .ensures) ∙ c .before .before .before .before .before .before .before .if3 .taken) (sym (c .before .before .before .before .before .before .before .before .before .before .is-yes .ensures) ∙ c .before .before .before .before .before .before .before .before .if1 .left) (c .before .before .before .before .before .before .before .before .before .moved .ensures))
-    (record { note = e .note; wrote = e .wrote; view = e .view; clean = λ k. e .clean (record { reader = k .reader; table = k .table; echo = k .echo }) })
+    (record { note = e .note; wrote = e .wrote; view = e .view; clean = λ k. e .clean (record { reader = k .reader; table = k .table; rcte = k .rcte }) })
 
-quiet-requires-3 : tie.Need-quiet-requires-3
-quiet-requires-3 c κs = search needs
+note-alone-requires-3 : tie.Need-note-alone-requires-3
+note-alone-requires-3 c κs = search needs
 
 returns-4 : tie.Need-returns-4
 unfolding sideMoved
 returns-4 c =
     let rcte = c .before .before .before .before .before .rcte-in-force in
-    rw (sym (rcte .ensures) ∙ c .before .if3 .left, sym (c .before .before .before .before .is-yes .ensures) ∙ c .before .before .if1 .left, c .quiet3 .ensures, c .before .before .before .moved .ensures)
-    (met-still _ _ _ (record { view = refl; clean = λ k. record { reader = k .reader; table = k .table; echo = k .echo } }) _ _)
+    rw (sym (rcte .ensures) ∙ c .before .if3 .left, sym (c .before .before .before .before .is-yes .ensures) ∙ c .before .before .if1 .left, c .note-alone3 .ensures, c .before .before .before .moved .ensures)
+    (met-still _ _ _ (record { view = refl; clean = λ k. record { reader = k .reader; table = k .table; rcte = k .rcte } }) _ _)
 
 pub rcte-moved-spec : {M : Type 1} → statement M
 rcte-moved-spec =
@@ -77,14 +77,14 @@ rcte-moved-spec =
     rcte-in-force-requires
     is-yes-requires
     moved-requires
-    quiet-requires
+    note-alone-requires
     returns
     started-requires
-    quiet-requires-2
+    note-alone-requires-2
     returns-2
     rcte-ended-requires
     same-length
     same-length-2
     returns-3
-    quiet-requires-3
+    note-alone-requires-3
     returns-4)

@@ -16,7 +16,7 @@ returns : tie.Need-returns
 unfolding sideMoved
 returns c =
     rw (c .before .before .moved .ensures, sym (c .before .is-yes .ensures) ∙ c .if1 .taken)
-    (record { view = refl; clean = λ k. record { reader = k .reader; table = k .table; echo = k .echo } })
+    (record { view = refl; clean = λ k. record { reader = k .reader; table = k .table; rcte = k .rcte } })
 
 unspoken-requires : tie.Need-unspoken-requires
 unspoken-requires c κs = search needs
@@ -25,7 +25,7 @@ returns-2 : tie.Need-returns-2
 unfolding sideMoved
 returns-2 c =
     rw (c .before .before .before .moved .ensures, sym (c .before .before .is-yes .ensures) ∙ c .before .if1 .left, c .unspoken .ensures)
-    (record { view = refl; clean = λ k. record { reader = k .reader; table = k .table; echo = k .echo } })
+    (record { view = refl; clean = λ k. record { reader = k .reader; table = k .table; rcte = k .rcte } })
 
 pub returns-moved-spec : {M : Type 1} → statement M
 returns-moved-spec = tie.close (tie.spec moved-requires is-yes-requires returns unspoken-requires returns-2)

@@ -8,7 +8,7 @@ use Rattle.printer.proofs.moves.side_moved.Reads as reads
 use Rattle.printer.proofs.moves.side_moved.Lts as lts
 use Rattle.printer.proofs.moves.macro_moved.Reads as macro-moved-reads
 use Rattle.printer.proofs.moves.plainly_moved.Reads as plainly-moved-reads
-use Rattle.printer.proofs.moves.quiet.Reads as quiet-reads
+use Rattle.printer.proofs.moves.note_alone.Reads as quiet-reads
 use Rattle.printer.proofs.moves.rcte_moved.Reads as rcte-moved-reads
 use Rattle.printer.proofs.moves.returns_moved.Reads as returns-moved-reads
 
@@ -24,8 +24,8 @@ enum-told-2 c = search needs
 macro-moved-requires : tie.Need-macro-moved-requires
 macro-moved-requires c κs = search needs
 
-quiet-requires : tie.Need-quiet-requires
-quiet-requires c κs = search needs
+note-alone-requires : tie.Need-note-alone-requires
+note-alone-requires c κs = search needs
 
 enum-told-3 : tie.Need-enum-told-3
 enum-told-3 c = search needs
@@ -33,14 +33,14 @@ enum-told-3 c = search needs
 returns-moved-requires : tie.Need-returns-moved-requires
 returns-moved-requires c κs = search needs
 
-quiet-requires-2 : tie.Need-quiet-requires-2
-quiet-requires-2 c κs = search needs
+note-alone-requires-2 : tie.Need-note-alone-requires-2
+note-alone-requires-2 c κs = search needs
 
 enum-told-4 : tie.Need-enum-told-4
 enum-told-4 c = search needs
 
-quiet-requires-3 : tie.Need-quiet-requires-3
-quiet-requires-3 c κs = search needs
+note-alone-requires-3 : tie.Need-note-alone-requires-3
+note-alone-requires-3 c κs = search needs
 
 enum-told-5 : tie.Need-enum-told-5
 enum-told-5 c = search needs
@@ -71,27 +71,27 @@ returns c = rw (c .before .before .before .before .before .before .before .enum-
 
 returns-2 : tie.Need-returns-2
 unfolding sideMoved
-returns-2 c = rw (c .before .before .enum-told2 .given .1, c .quiet .ensures) (met-still _ _ _ (c .before .macro-moved .ensures) _ _)
+returns-2 c = rw (c .before .before .enum-told2 .given .1, c .note-alone .ensures) (met-still _ _ _ (c .before .macro-moved .ensures) _ _)
 
 returns-3 : tie.Need-returns-3
 unfolding sideMoved
-returns-3 c = rw (c .before .before .enum-told3 .given .1, c .quiet2 .ensures) (met-still _ _ _ (c .before .returns-moved .ensures) _ _)
+returns-3 c = rw (c .before .before .enum-told3 .given .1, c .note-alone2 .ensures) (met-still _ _ _ (c .before .returns-moved .ensures) _ _)
 
 returns-4 : tie.Need-returns-4
 unfolding sideMoved
-returns-4 c = rw (c .before .enum-told4 .given .1, c .quiet3 .ensures) (met-still _ _ _ (record { view = refl; clean = λ k. k }) _ _)
+returns-4 c = rw (c .before .enum-told4 .given .1, c .note-alone3 .ensures) (met-still _ _ _ (record { view = refl; clean = λ k. k }) _ _)
 
 returns-5 : tie.Need-returns-5
 unfolding sideMoved
-returns-5 c = rw (c .before .enum-told5 .given .1, c .plainly-moved .ensures) (met-still _ _ _ (record { view = refl; clean = λ k. record { reader = k .reader; table = k .table; echo = k .echo } }) _ _)
+returns-5 c = rw (c .before .enum-told5 .given .1, c .plainly-moved .ensures) (met-still _ _ _ (record { view = refl; clean = λ k. record { reader = k .reader; table = k .table; rcte = k .rcte } }) _ _)
 
 returns-6 : tie.Need-returns-6
 unfolding sideMoved
-returns-6 c = rw (c .before .enum-told6 .given .1, c .plainly-moved2 .ensures) (met-still _ _ _ (record { view = refl; clean = λ k. record { reader = k .reader; table = k .table; echo = k .echo } }) _ _)
+returns-6 c = rw (c .before .enum-told6 .given .1, c .plainly-moved2 .ensures) (met-still _ _ _ (record { view = refl; clean = λ k. record { reader = k .reader; table = k .table; rcte = k .rcte } }) _ _)
 
 returns-7 : tie.Need-returns-7
 unfolding sideMoved
-returns-7 c = rw (c .before .enum-told7 .given .1, c .plainly-moved3 .ensures) (met-still _ _ _ (record { view = refl; clean = λ k. record { reader = k .reader; table = k .table; echo = k .echo } }) _ _)
+returns-7 c = rw (c .before .enum-told7 .given .1, c .plainly-moved3 .ensures) (met-still _ _ _ (record { view = refl; clean = λ k. record { reader = k .reader; table = k .table; rcte = k .rcte } }) _ _)
 
 pub side-moved-spec : {M : Type 1} → statement M
 side-moved-spec =
@@ -101,12 +101,12 @@ side-moved-spec =
     rcte-moved-requires
     enum-told-2
     macro-moved-requires
-    quiet-requires
+    note-alone-requires
     enum-told-3
     returns-moved-requires
-    quiet-requires-2
+    note-alone-requires-2
     enum-told-4
-    quiet-requires-3
+    note-alone-requires-3
     enum-told-5
     plainly-moved-requires
     enum-told-6

@@ -1,7 +1,7 @@
 use Rattle.printer.proofs.Bodies.{byte-item}
 use Rattle.printer.proofs.Choosing.{data-byte}
-use Rattle.printer.specs.Kept.{viewPrinter}
-use Rattle.reader.specs.Kept.{viewReader}
+use Rattle.printer.specs.Refinement.{viewPrinter}
+use Rattle.reader.specs.Refinement.{viewReader}
 use mathlib.Core.Path.{sym, _∙_}
 use borrow.Author.Needs.{needs}
 use Rattle.printer.proofs.network.byte_read.Statement.{statement}
@@ -50,7 +50,7 @@ returns-2 c =
     let read = c .before .before .before .before .before .before .before .before .read-byte in
     let e = c .before .before .before .before .item-read .ensures in
     rw (byte-item (viewPrinter (x .s)) (x .b) (read .result .item) (viewReader (read .result .reader)) (read .ensures .item) (read .ensures .view))
-    (record { note = e .note; wrote = e .wrote; view = e .view; clean = λ k. e .clean (record { reader = read .ensures .clean (k .reader); table = k .table; echo = k .echo }) })
+    (record { note = e .note; wrote = e .wrote; view = e .view; clean = λ k. e .clean (record { reader = read .ensures .clean (k .reader); table = k .table; rcte = k .rcte }) })
 
 pub byte-read-spec : {M : Type 1} → statement M
 byte-read-spec =

@@ -28,8 +28,8 @@ returns c =
       met = λ wire. record {
         note = refl;
         wrote = record { paper = wrote-start _ _ (start .pre); wire = wrote-none wire };
-        view = rw (h .echo);
-        clean = λ k. record { reader = k .reader; table = k .table; echo = h .clean (k .echo) };
+        view = rw (h .rcte);
+        clean = λ k. record { reader = k .reader; table = k .table; rcte = h .clean (k .rcte) };
       };
     })
 
@@ -46,7 +46,7 @@ returns-2 c =
         note = refl;
         wrote = record { paper = wrote-start _ _ (start .pre); wire = wrote-none wire };
         view = refl;
-        clean = λ k. record { reader = k .reader; table = k .table; echo = k .echo };
+        clean = λ k. record { reader = k .reader; table = k .table; rcte = k .rcte };
       };
     })
 

@@ -1,11 +1,11 @@
 use mathlib.Core.List.{List}
 use Rattle.printer.proofs.Views.{sized-view}
-use Rattle.printer.specs.Kept.{viewPrinter, textIn}
+use Rattle.printer.specs.Refinement.{viewPrinter, textIn}
 use Rattle.printer.specs.Network.{bytesRead, entryRead}
-use Rattle.printer.specs.State.{Printer}
-use Rattle.macros.proofs.View.{text-entry, plain-entry}
-use Rattle.macros.specs.Packed.{textOf}
-use Rattle.macros.specs.Texts.{Entry, entryOf, text}
+use Rattle.printer.specs.State.{PrinterState}
+use Rattle.received_macros.proofs.View.{text-entry, plain-entry}
+use Rattle.received_macros.specs.Refinement.{textOf}
+use Rattle.received_macros.specs.Texts.{Entry, entryOf, text}
 use Prim.Native.Nat.{ℕ}
 use native.Mathlib.Omega.{arith}
 use mathlib.Core.Path.{_≡_, sym, ap, _∙_}
@@ -14,13 +14,13 @@ use Rattle.printer.proofs.network.defined_read.Statement.{statement}
 use Rattle.printer.proofs.network.defined_read.Tie as tie
 use Rattle.printer.proofs.network.defined_read.Reads as reads
 use Rattle.printer.proofs.network.defined_read.Lts as lts
-use Rattle.macros.proofs.is_defined.Reads as is-defined-reads
-use Rattle.macros.proofs.text_of.Reads as text-of-reads
+use Rattle.received_macros.proofs.is_defined.Reads as is-defined-reads
+use Rattle.received_macros.proofs.text_of.Reads as text-of-reads
 use Rattle.printer.proofs.network.byte_read.Reads as byte-read-reads
 use Rattle.printer.proofs.network.text_read.Reads as text-read-reads
 
 -- a text's entry is read as the copy that was taken of it
-as-text : (s : Printer) (b : ℕ) (e : Entry) (t : List ℕ) → e ≡ text (textOf e) → t ≡ textOf e → entryRead s b e ≡ bytesRead s t
+as-text : (s : PrinterState) (b : ℕ) (e : Entry) (t : List ℕ) → e ≡ text (textOf e) → t ≡ textOf e → entryRead s b e ≡ bytesRead s t
 as-text s b e t h c = ap (λ (x : Entry). entryRead s b x) h ∙ ap (λ (x : List ℕ). bytesRead s x) (sym c)
 
 is-defined-requires : tie.Need-is-defined-requires

@@ -1,4 +1,4 @@
-use Rattle.printer.proofs.Meeting.{met-quietly}
+use Rattle.printer.proofs.Meeting.{met-unwritten}
 use mathlib.Core.Path.{refl}
 use borrow.Author.Needs.{needs}
 use Rattle.printer.proofs.network.item_read.Statement.{statement}
@@ -7,14 +7,14 @@ use Rattle.printer.proofs.network.item_read.Reads as reads
 use Rattle.printer.proofs.network.item_read.Lts as lts
 use Rattle.printer.proofs.body.body_read.Reads as body-read-reads
 use Rattle.printer.proofs.moves.negotiated.Reads as negotiated-reads
-use Rattle.printer.proofs.moves.quiet.Reads as quiet-reads
+use Rattle.printer.proofs.moves.note_alone.Reads as quiet-reads
 use Rattle.printer.proofs.network.data_read.Reads as data-read-reads
 
 enum-told : tie.Need-enum-told
 enum-told c = search needs
 
-quiet-requires : tie.Need-quiet-requires
-quiet-requires c κs = search needs
+note-alone-requires : tie.Need-note-alone-requires
+note-alone-requires c κs = search needs
 
 enum-known-item : tie.Need-enum-known-item
 enum-known-item c = search needs
@@ -37,11 +37,11 @@ body-read-requires c κs = rw (c .before .before .enum-told2 .given .1) at (c .b
 enum-told-3 : tie.Need-enum-told-3
 enum-told-3 c = search needs
 
-quiet-requires-2 : tie.Need-quiet-requires-2
-quiet-requires-2 c κs = search needs
+note-alone-requires-2 : tie.Need-note-alone-requires-2
+note-alone-requires-2 c κs = search needs
 
 returns : tie.Need-returns
-returns c = rw (c .before .enum-told .given .1, c .quiet .ensures) (met-quietly _ _ _ _ refl (λ k. k) .met _ _)
+returns c = rw (c .before .enum-told .given .1, c .note-alone .ensures) (met-unwritten _ _ _ _ refl (λ k. k) .met _ _)
 
 same-length : tie.Need-same-length
 same-length c = search needs
@@ -68,14 +68,14 @@ returns-4 : tie.Need-returns-4
 returns-4 c = rw (c .before .before .before .before .before .before .before .enum-told2 .given .1) (c .before .before .before .before .body-read .ensures)
 
 returns-5 : tie.Need-returns-5
-returns-5 c = rw (c .before .enum-told3 .given .1, c .quiet2 .ensures) (met-quietly _ _ _ _ refl (λ k. k) .met _ _)
+returns-5 c = rw (c .before .enum-told3 .given .1, c .note-alone2 .ensures) (met-unwritten _ _ _ _ refl (λ k. k) .met _ _)
 
 pub item-read-spec : {M : Type 1} → statement M
 item-read-spec =
     tie.close
     (tie.spec
     enum-told
-    quiet-requires
+    note-alone-requires
     enum-known-item
     data-read-requires
     enum-known-item-2
@@ -83,7 +83,7 @@ item-read-spec =
     enum-told-2
     body-read-requires
     enum-told-3
-    quiet-requires-2
+    note-alone-requires-2
     returns
     same-length
     returns-2

@@ -1,6 +1,6 @@
 use Rattle.printer.proofs.Choosing.{plain-read, off-read, inside-read, chosen-read}
-use Rattle.printer.specs.Kept.{viewPrinter}
-use Rattle.macros.proofs.View.{unmarked-plain}
+use Rattle.printer.specs.Refinement.{viewPrinter}
+use Rattle.received_macros.proofs.View.{unmarked-plain}
 use borrow.Author.Tests.{not-true, not-false}
 use mathlib.Core.Path.{sym, _∙_}
 use borrow.Author.Needs.{needs}

@@ -2,12 +2,12 @@
 use mathlib.Core.Path.{_≡_}
 use mir.Syntax.{w8, tyInt}
 use denote.Builtin.{u8}
-use Rattle.definitions.proofs.Status as D
-use Rattle.definitions.proofs.Status.Laws as D′
+use Rattle.sent_macros.proofs.Status as D
+use Rattle.sent_macros.proofs.Status.Laws as D′
 use Rattle.bulletin.proofs.Bulletin as P
 use Rattle.bulletin.proofs.Bulletin.Laws as P′
 use Rattle.bulletin.specs.Calls.{macroStatus}
-use Rattle.bulletin.specs.Kept.{viewBulletin}
+use Rattle.bulletin.specs.Refinement.{viewBulletin}
 use Rattle.sessions.proofs.Wrappers.{of-uint, of-enum}
 use Rattle.sessions.proofs.QuestionOfOne.{meets}
 use Rattle.sessions.proofs.BulletinEnd.{state-plain}

@@ -1,9 +1,8 @@
 -- `order` on a lent record does what it does by value.
-use lib.ListN.{length}
 use mir.Syntax.{w8, w16, tyInt}
 use denote.Builtin.{u8, u16}
 use Rattle.bulletin.specs.Calls.{orderCall}
-use Rattle.bulletin.specs.Kept.{viewBulletin, MetOnWire}
+use Rattle.bulletin.specs.Refinement.{viewBulletin, RefinesAnswerOnWire}
 use Rattle.sessions.proofs.Wrappers.{of-uint}
 use Rattle.sessions.proofs.ThreeOnWire.{Answers, meets}
 use Rattle.sessions.proofs.BulletinEnd.{types, laws}
@@ -20,7 +19,7 @@ use Rattle.sessions.proofs.bulletin_end.order.Statement as stated
 use Rattle.sessions.proofs.bulletin_end.order.Code as code
 
 abbrev answers : Answers types u8 u16 u16
-answers s cmd breaks sends wire wire′ r = MetOnWire (orderCall (viewBulletin s) cmd breaks sends (length wire)) s wire wire′ r
+answers s cmd breaks sends wire r = RefinesAnswerOnWire (orderCall (viewBulletin s) cmd breaks sends) s wire r
 
 pub order-spec : {M : Type 1} → stated.statement M
 unfolding code.routine tablesOf

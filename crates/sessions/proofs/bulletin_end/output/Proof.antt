@@ -5,7 +5,7 @@ use Rattle.bulletin.proofs.Output.Laws as D′
 use Rattle.bulletin.proofs.Bulletin as P
 use Rattle.bulletin.proofs.Bulletin.Laws as P′
 use Rattle.bulletin.specs.Calls.{outputNow}
-use Rattle.bulletin.specs.Kept.{viewBulletin}
+use Rattle.bulletin.specs.Refinement.{viewBulletin}
 use Rattle.sessions.proofs.Wrappers.{of-enum}
 use Rattle.sessions.proofs.Question.{meets}
 use Rattle.sessions.proofs.BulletinEnd.{state-plain}

@@ -1,11 +1,12 @@
 -- `report` on a lent record answers what it answers by value.
 use mathlib.Core.Path.{_≡_}
+use Rattle.disposition.specs.Returns.{reportOf}
 use Rattle.disposition.proofs.Handling as D
 use Rattle.disposition.proofs.Handling.Laws as D′
 use Rattle.bulletin.proofs.Bulletin as P
 use Rattle.bulletin.proofs.Bulletin.Laws as P′
 use Rattle.bulletin.specs.Calls.{returnsReport}
-use Rattle.bulletin.specs.Kept.{viewBulletin}
+use Rattle.bulletin.specs.Refinement.{viewBulletin}
 use Rattle.sessions.proofs.Wrappers.{of-enum}
 use Rattle.sessions.proofs.Question.{meets}
 use Rattle.sessions.proofs.BulletinEnd.{state-plain}
@@ -22,7 +23,7 @@ use Rattle.sessions.proofs.bulletin_end.report.Statement as stated
 use Rattle.sessions.proofs.bulletin_end.report.Code as code
 
 abbrev answers : P.the-row .Denot → D.the-row .Denot → Type 0
-answers s r = r ≡ returnsReport (viewBulletin s)
+answers s r = reportOf r ≡ returnsReport (viewBulletin s)
 
 pub report-spec : {M : Type 1} → stated.statement M
 unfolding code.routine tablesOf

@@ -1,9 +1,8 @@
 -- `suggest` on a lent record does what it does by value.
-use lib.ListN.{length}
 use mir.Syntax.{w8, tyInt}
 use denote.Builtin.{u8}
 use Rattle.bulletin.specs.Calls.{suggestCall}
-use Rattle.bulletin.specs.Kept.{viewBulletin, MetOnWire}
+use Rattle.bulletin.specs.Refinement.{viewBulletin, RefinesAnswerOnWire}
 use Rattle.sessions.proofs.Wrappers.{of-uint}
 use Rattle.sessions.proofs.OneOnWire.{Answers, meets}
 use Rattle.sessions.proofs.BulletinEnd.{types, laws}
@@ -20,7 +19,7 @@ use Rattle.sessions.proofs.bulletin_end.suggest.Statement as stated
 use Rattle.sessions.proofs.bulletin_end.suggest.Code as code
 
 abbrev answers : Answers types u8
-answers s v wire wire′ r = MetOnWire (suggestCall (viewBulletin s) v (length wire)) s wire wire′ r
+answers s v wire r = RefinesAnswerOnWire (suggestCall (viewBulletin s) v) s wire r
 
 pub suggest-spec : {M : Type 1} → stated.statement M
 unfolding code.routine tablesOf

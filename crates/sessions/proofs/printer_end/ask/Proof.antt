@@ -1,9 +1,8 @@
 -- `ask` on a lent record does what it does by value.
-use lib.ListN.{length}
 use mir.Syntax.{w8, tyInt}
 use denote.Builtin.{u8}
 use Rattle.printer.specs.Calls.{askCall}
-use Rattle.printer.specs.Kept.{viewPrinter, MetAnswer}
+use Rattle.printer.specs.Refinement.{viewPrinter, RefinesAnswer}
 use Rattle.sessions.proofs.Wrappers.{of-uint}
 use Rattle.sessions.proofs.TwoArguments.{Answers, meets}
 use Rattle.sessions.proofs.PrinterEnd.{types, laws}
@@ -20,7 +19,7 @@ use Rattle.sessions.proofs.printer_end.ask.Statement as stated
 use Rattle.sessions.proofs.printer_end.ask.Code as code
 
 abbrev answers : Answers types u8 u8
-answers s option way paper paper′ wire wire′ r = MetAnswer (askCall (viewPrinter s) option way (length paper) (length wire)) s paper paper′ wire wire′ r
+answers s option way paper wire r = RefinesAnswer (askCall (viewPrinter s) option way) s paper wire r
 
 pub ask-spec : {M : Type 1} → stated.statement M
 unfolding code.routine tablesOf

@@ -1,11 +1,12 @@
 -- `report` on a lent record answers what it answers by value.
 use mathlib.Core.Path.{_≡_}
+use Rattle.disposition.specs.Returns.{reportOf}
 use Rattle.disposition.proofs.Handling as D
 use Rattle.disposition.proofs.Handling.Laws as D′
 use Rattle.printer.proofs.Printer as P
 use Rattle.printer.proofs.Printer.Laws as P′
 use Rattle.printer.specs.Calls.{returnsReport}
-use Rattle.printer.specs.Kept.{viewPrinter}
+use Rattle.printer.specs.Refinement.{viewPrinter}
 use Rattle.sessions.proofs.Wrappers.{of-enum}
 use Rattle.sessions.proofs.Question.{meets}
 use Rattle.sessions.proofs.PrinterEnd.{state-plain}
@@ -22,7 +23,7 @@ use Rattle.sessions.proofs.printer_end.report.Statement as stated
 use Rattle.sessions.proofs.printer_end.report.Code as code
 
 abbrev answers : P.the-row .Denot → D.the-row .Denot → Type 0
-answers s r = r ≡ returnsReport (viewPrinter s)
+answers s r = reportOf r ≡ returnsReport (viewPrinter s)
 
 pub report-spec : {M : Type 1} → stated.statement M
 unfolding code.routine tablesOf

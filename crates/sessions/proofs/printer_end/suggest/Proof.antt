@@ -1,9 +1,8 @@
 -- `suggest` on a lent record does what it does by value.
-use lib.ListN.{length}
 use mir.Syntax.{w8, tyInt}
 use denote.Builtin.{u8}
 use Rattle.printer.specs.Calls.{suggestCall}
-use Rattle.printer.specs.Kept.{viewPrinter, MetAnswer}
+use Rattle.printer.specs.Refinement.{viewPrinter, RefinesAnswer}
 use Rattle.sessions.proofs.Wrappers.{of-uint}
 use Rattle.sessions.proofs.OneArgument.{Answers, meets}
 use Rattle.sessions.proofs.PrinterEnd.{types, laws}
@@ -20,7 +19,7 @@ use Rattle.sessions.proofs.printer_end.suggest.Statement as stated
 use Rattle.sessions.proofs.printer_end.suggest.Code as code
 
 abbrev answers : Answers types u8
-answers s v paper paper′ wire wire′ r = MetAnswer (suggestCall (viewPrinter s) v (length paper) (length wire)) s paper paper′ wire wire′ r
+answers s v paper wire r = RefinesAnswer (suggestCall (viewPrinter s) v) s paper wire r
 
 pub suggest-spec : {M : Type 1} → stated.statement M
 unfolding code.routine tablesOf

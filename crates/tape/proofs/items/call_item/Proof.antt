@@ -1,4 +1,4 @@
-use Rattle.tape.specs.Steps.{itemOf}
+use Rattle.tape.specs.Fields.{itemOf}
 use borrow.Author.Tests.{ne-eqb}
 use borrow.Author.Needs.{needs}
 use Rattle.tape.proofs.items.call_item.Statement.{statement}

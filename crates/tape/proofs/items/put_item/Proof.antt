@@ -48,8 +48,7 @@ returns c =
     let e = c .before .before .before .before .before .before .before .before .before .before .before .before .call-item .ensures in
     record {
       line = rw (read-off (c .before .before .before .before .before .before .before .before .before .before .before .before .call-item .ensures .wrote .paper), read-off (c .before .before .before .before .before .before .before .before .before .before .before .before .call-item .ensures .wrote .wire), c .before .before .before .before .before .before .before .code-number .ensures, e .code) at (c .before .before .put-shown .ensures);
-      paper = e .wrote .paper;
-      wire = e .wrote .wire;
+      wrote = e .wrote;
       view = e .view;
       clean = e .clean;
     }

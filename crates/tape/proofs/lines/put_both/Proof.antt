@@ -2,7 +2,7 @@ use native.Mathlib.Omega.{arith}
 use borrow.Author.Needs.{needs}
 use Rattle.lists.proofs.Parts.{same-long}
 use Rattle.lists.proofs.Behind.{room-front, rest-start, rest-room, wrote-both, both-within}
-use Rattle.tape.specs.Parts.{hexThen}
+use Rattle.tape.specs.Refinement.Parts.{hexThen}
 use Rattle.tape.proofs.lines.put_both.Statement.{statement}
 use Rattle.tape.proofs.lines.put_both.Tie as tie
 

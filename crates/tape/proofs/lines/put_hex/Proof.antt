@@ -1,10 +1,9 @@
 use mathlib.Core.Path.{_≡_, refl}
-use mathlib.Core.List.{List, [], _∷_}
+use mathlib.Core.List.{List, [], _∷_, flatMap}
 use Prim.Native.Nat.{ℕ}
 use native.Mathlib.Omega.{arith}
 use borrow.Author.Needs.{needs}
 use lib.ListN.{length}
-use Rattle.lists.specs.Lists.{joined}
 use Rattle.lists.proofs.Starts.{wrote-start}
 use Rattle.tape.specs.Lines.{hexByte, hexOf}
 use Rattle.tape.proofs.lines.put_hex.Statement.{statement}
@@ -14,8 +13,8 @@ of-none : (bytes : List ℕ) → length bytes ≡ 0 → hexOf bytes ≡ 45 ∷ [
 of-none [] e = refl
 of-none (b ∷ bytes) e = absurd (omega arith)
 
-of-some : (bytes : List ℕ) → (length bytes ≡ 0 → ⊥) → hexOf bytes ≡ joined hexByte bytes
-unfolding joined
+of-some : (bytes : List ℕ) → (length bytes ≡ 0 → ⊥) → hexOf bytes ≡ flatMap hexByte bytes
+unfolding flatMap
 of-some [] some = absurd (some refl)
 of-some (b ∷ bytes) some = refl
 

@@ -1,20 +1,20 @@
 -- What was written, and the hex of the bytes that are left, are the hex of all.
 use mathlib.Core.Path.{_≡_}
-use mathlib.Core.List.{_∷_}
+use mathlib.Core.List.{_∷_, flatMap}
 use Prim.Native.Nat.{_+_, _-_, _≤_}
 use native.Mathlib.Numerals.{add-one}
 use native.Mathlib.Omega.{arith}
 use borrow.Author.Needs.{needs}
 use lib.ListN.{length, drop, getD}
 use lib.Seq.{drop-cons}
-use Rattle.lists.specs.Lists.{joined}
+use Rattle.lists.specs.Buffers.{lentAs}
 use Rattle.lists.proofs.Filling.{Filling, nothing-filled, room-done, still-long, run-room, run-more, run-done}
 use Rattle.tape.specs.Lines.{hexByte}
 use Rattle.tape.proofs.lines.put_hex_bytes.Statement.{statement}
 use Rattle.tape.proofs.lines.put_hex_bytes.Tie as tie
 
 abbrev Inv-loop : tie.InvT-loop
-Inv-loop bytes out₀ i₀ n₀ out i n = (i ≤ length bytes) × Filling (joined hexByte bytes) (joined hexByte (drop i bytes)) out₀ out n
+Inv-loop bytes out₀ i₀ n₀ out i n = (i ≤ length bytes) × Filling (flatMap hexByte bytes) (flatMap hexByte (drop i bytes)) (lentAs out₀ out) n
 
 abbrev μ-loop : tie.MeasureT-loop
 μ-loop bytes out₀ i₀ n₀ out i n = length bytes - i

@@ -3,7 +3,7 @@ use native.Mathlib.Omega.{arith}
 use Rattle.lists.proofs.Parts.{same-long}
 use Rattle.lists.proofs.Behind.{room-front, last-inside, last-place, wrote-last}
 use Rattle.tape.specs.Lines.{hexOf}
-use Rattle.tape.specs.Parts.{hexThen}
+use Rattle.tape.specs.Refinement.Parts.{hexThen}
 use Rattle.tape.proofs.lines.put_hex_then.Statement.{statement}
 use Rattle.tape.proofs.lines.put_hex_then.Tie as tie
 

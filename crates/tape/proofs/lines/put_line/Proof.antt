@@ -4,7 +4,7 @@ use borrow.Author.Needs.{needs}
 use Rattle.lists.specs.Buffers.{RoomFor}
 use Rattle.lists.proofs.Parts.{same-long}
 use Rattle.lists.proofs.Behind.{room-front, rest-start, rest-room, wrote-both, both-within}
-use Rattle.tape.specs.Parts.{numbersOf, bytesOf}
+use Rattle.tape.specs.Refinement.Parts.{numbersOf, bytesOf}
 use Rattle.tape.proofs.LineParts.{line-parts}
 use Rattle.tape.proofs.lines.put_line.Statement.{statement}
 use Rattle.tape.proofs.lines.put_line.Tie as tie

@@ -3,7 +3,7 @@ use native.Mathlib.Omega.{arith}
 use Rattle.lists.proofs.Parts.{same-long}
 use Rattle.lists.proofs.Behind.{room-front, last-inside, last-place, wrote-last}
 use Rattle.tape.specs.Lines.{decimal}
-use Rattle.tape.specs.Parts.{numberThen}
+use Rattle.tape.specs.Refinement.Parts.{numberThen}
 use Rattle.tape.proofs.lines.put_number.Statement.{statement}
 use Rattle.tape.proofs.lines.put_number.Tie as tie
 

@@ -9,7 +9,7 @@ fresh-requires : tie.Need-fresh-requires
 fresh-requires c κs = search needs
 
 returns : tie.Need-returns
-returns c = record { view = rw (c .fresh .ensures .view); clean = c .fresh .ensures .clean }
+returns c = rw (c .fresh .ensures)
 
 pub begin-spec : {M : Type 1} → statement M
 begin-spec = tie.close (tie.spec fresh-requires returns)

@@ -1,4 +1,4 @@
-use Rattle.tape.specs.Steps.{isOver}
+use Rattle.tape.specs.Refinement.Steps.{isOver}
 use borrow.Author.Tests.{lt-ltb, le-ltb}
 use Rattle.tape.proofs.running.is_over.Statement.{statement}
 use Rattle.tape.proofs.running.is_over.Tie as tie

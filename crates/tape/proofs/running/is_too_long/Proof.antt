@@ -1,4 +1,4 @@
-use Rattle.tape.specs.Steps.{isTooLong}
+use Rattle.tape.specs.Refinement.Steps.{isTooLong}
 use borrow.Author.Tests.{eq-eqb, ne-eqb}
 use native.Mathlib.Omega.{arith}
 use Rattle.tape.proofs.running.is_too_long.Statement.{statement}

@@ -1,5 +1,5 @@
 use Rattle.tape.proofs.Machines.{item-room, paper-fits, wire-fits, item-met}
-use Rattle.tape.specs.Steps.{itemOf}
+use Rattle.tape.specs.Fields.{itemOf}
 use native.Mathlib.Omega.{arith}
 use borrow.Author.Needs.{needs}
 use Rattle.tape.proofs.running.one_item.Statement.{statement}
@@ -52,7 +52,7 @@ add-t16 c =
     omega (
       arith,
       paper-fits (x .m) (itemOf (x .m .place .tag) (x .a) (x .b)) (p .result) (w .result) (p .ensures .0) (p .ensures .1) (w .ensures .0) (w .ensures .1) (x .paper .now)
-          (x .wire .now) (s .pre .0) (s .pre .1 .0) (i .last .1 .1 .1 .1 .0) (i .last .1 .1 .1 .1 .1 .0) (x .out .now) (i .last .1 .1 .1 .1 .1 .1 .0) (i .result) (i .ensures),
+          (x .wire .now) (s .pre .0) (s .pre .1 .0) (i .ensures),
     )
 
 add-t20 : tie.Need-add-t20
@@ -65,7 +65,7 @@ add-t20 c =
     omega (
       arith,
       wire-fits (x .m) (itemOf (x .m .place .tag) (x .a) (x .b)) (p .result) (w .result) (p .ensures .0) (p .ensures .1) (w .ensures .0) (w .ensures .1) (x .paper .now)
-          (x .wire .now) (s .pre .0) (s .pre .1 .0) (i .last .1 .1 .1 .1 .0) (i .last .1 .1 .1 .1 .1 .0) (x .out .now) (i .last .1 .1 .1 .1 .1 .1 .0) (i .result) (i .ensures),
+          (x .wire .now) (s .pre .0) (s .pre .1 .0) (i .ensures),
     )
 
 same-length : tie.Need-same-length
@@ -85,7 +85,7 @@ returns c =
     let w = c .before .before .before .before .before .before .before .before .before .before .before .before .before .used-for2 in
     let i = c .before .before .before .before .before .before .before .before .before .put-item in
     item-met (x .m) (itemOf (x .m .place .tag) (x .a) (x .b)) (p .result) (w .result) (p .ensures .0) (p .ensures .1) (w .ensures .0) (w .ensures .1) (x .paper .now)
-    (x .wire .now) (s .pre .0) (s .pre .1 .0) (i .last .1 .1 .1 .1 .0) (i .last .1 .1 .1 .1 .1 .0) (x .out .now) (i .last .1 .1 .1 .1 .1 .1 .0) (i .result) (i .ensures) (x .after)
+    (x .wire .now) (s .pre .0) (s .pre .1 .0) (i .ensures) (x .after)
 
 pub one-item-spec : {M : Type 1} → statement M
 one-item-spec =

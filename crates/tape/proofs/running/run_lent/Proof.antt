@@ -1,8 +1,9 @@
 use lib.ListN.{length}
 use Prim.Native.Nat.{_-_}
+use Rattle.lists.specs.Buffers.{lentAs}
 use Rattle.tape.specs.Whole.{lineRoom}
-use Rattle.tape.specs.Kept.{viewMachine}
-use Rattle.tape.specs.Steps.{ahead}
+use Rattle.tape.specs.Refinement.Machine.{viewMachine}
+use Rattle.tape.specs.Refinement.Steps.{ahead}
 use Rattle.tape.proofs.Runs.{Runs, falls, no-steps, still-long, within, part-enough, more-within, one-more, short-stops, run-met}
 use Rattle.tape.proofs.ManySteps.{over-stays}
 use borrow.Author.Tests.{leb-true, not-true, not-false}
@@ -11,13 +12,9 @@ use mathlib.Core.Path.{sym, _∙_}
 use borrow.Author.Needs.{needs}
 use Rattle.tape.proofs.running.run_lent.Statement.{statement}
 use Rattle.tape.proofs.running.run_lent.Tie as tie
-use Rattle.tape.proofs.running.run_lent.Reads as reads
-use Rattle.tape.proofs.running.run_lent.Lts as lts
-use Rattle.tape.proofs.running.is_over.Reads as is-over-reads
-use Rattle.tape.proofs.running.step.Reads as step-reads
 
 abbrev Inv-loop : tie.InvT-loop
-Inv-loop tape paper₀ wire₀ out₀ machine₀ written₀ paper wire out machine written = Runs tape machine₀ out₀ paper wire out machine written
+Inv-loop tape paper₀ wire₀ out₀ machine₀ written₀ paper wire out machine written = Runs tape machine₀ paper wire (lentAs out₀ out) machine written
 
 abbrev μ-loop : tie.MeasureT-loop
 μ-loop tape paper₀ wire₀ out₀ machine₀ written₀ paper wire out machine written = ahead tape (machine .place)
@@ -32,100 +29,75 @@ is-over-requires : tie.Need-is-over-requires Inv-loop μ-loop
 is-over-requires c κs = search needs
 
 sub-if2 : tie.Need-sub-if2 Inv-loop μ-loop
-sub-if2 c =
-    let x = c .before .before .before .before .before .before .before .args in
-    let l = c .before .before .loop in
-    within (x .tape .now) (x .m) (x .out .now) (l .paper) (l .wire) (l .out) (l .machine) (l .written) (l .inv)
+sub-if2 c = within (c .before .before .loop .inv)
 
 sub-step : tie.Need-sub-step Inv-loop μ-loop
-sub-step c =
-    let x = c .before .before .before .before .before .before .before .before .before .before .args in
-    let l = c .before .before .before .before .before .loop in
-    within (x .tape .now) (x .m) (x .out .now) (l .paper) (l .wire) (l .out) (l .machine) (l .written) (l .inv)
+sub-step c = within (c .before .before .before .before .before .loop .inv)
 
 part-step-start : tie.Need-part-step-start Inv-loop μ-loop
-part-step-start c =
-    let x = c .before .before .before .before .before .before .before .before .before .before .args in
-    let l = c .before .before .before .before .before .loop in
-    within (x .tape .now) (x .m) (x .out .now) (l .paper) (l .wire) (l .out) (l .machine) (l .written) (l .inv)
+part-step-start c = within (c .before .before .before .before .before .loop .inv)
 
 part-step-end : tie.Need-part-step-end Inv-loop μ-loop
 part-step-end c = search needs
 
 step-requires : tie.Need-step-requires Inv-loop μ-loop
 step-requires c κs =
-    let x = c .before .before .before .before .before .before .before .before .before .before .before .args in
     let l = c .before .before .before .before .before .before .loop in
     let enough = leb-true lineRoom _ (c .before .before .before .if2 .taken) in
-    (l .inv .paper, (l .inv .wire, part-enough (x .tape .now) (x .m) (x .out .now) (l .paper) (l .wire) (l .out) (l .machine) (l .written) (l .inv) enough))
+    (l .inv .paperLong, (l .inv .wireLong, part-enough (l .inv) enough))
 
 add-written : tie.Need-add-written Inv-loop μ-loop
 add-written c =
-    let x = c .before .before .before .before .before .before .before .before .before .before .before .before .before .before .before .before .before .before .before .before .args in
-    let l = c .before .before .before .before .before .before .before .before .before .before .before .before .before .before .before .loop in
-    let s = c .before .before .before .before .before .before .before .before .step in
-    let enough = leb-true lineRoom _ (c .before .before .before .before .before .before .before .before .before .before .before .before .if2 .taken) in
-    omega (
-      arith,
-      more-within (x .tape .now) (x .m) (x .out .now) (l .paper) (l .wire) (l .out) (l .machine) (l .written) (l .inv) enough (s .last .1 .1 .1 .1 .0) (s .result) (s .ensures),
-      still-long (x .tape .now) (x .m) (x .out .now) (l .paper) (l .wire) (l .out) (l .machine) (l .written) (l .inv),
-      c .before .before .before .before .before .before .before .before .before .before .before .before .before .before .before .before .before .before .before .before .good .1 .1 .1 .1 .0 .0,
-    )
+    let t = c .before .before .before .before .before .before .before .before in
+    let a = t .before .before .before .before .before .before .before in
+    let enough = leb-true lineRoom (length (a .loop .out) - a .loop .written) (t .before .before .before .before .if2 .taken) in
+    omega (arith, more-within (a .loop .inv) enough (t .step .ensures), still-long (a .loop .inv), a .before .before .before .before .before .good .1 .1 .1 .1 .0 .0)
 
 loop-less : tie.Need-loop-less Inv-loop μ-loop
 loop-less c =
-    let x = c .before .before .before .before .before .before .before .before .before .before .before .before .before .before .before .before .before .before .before .before .args in
-    let l = c .before .before .before .before .before .before .before .before .before .before .before .before .before .before .before .loop in
-    let s = c .before .before .before .before .before .before .before .before .step in
-    let enough = leb-true lineRoom _ (c .before .before .before .before .before .before .before .before .before .before .before .before .if2 .taken) in
-    falls (x .tape .now) (x .m) (x .out .now) (l .paper) (l .wire) (l .out) (l .machine) (l .written) (l .inv) enough (s .last .1 .1 .1 .1 .0) (s .result) (s .ensures)
-    (sym (c .before .before .before .before .before .before .before .before .before .before .before .before .before .before .is-over .ensures) ∙ not-true _ (c .before .before .before .before .before .before .before .before .before .before .before .before .before .if1 .taken))
+    let t = c .before .before .before .before .before .before .before .before in
+    let a = t .before .before .before .before .before .before .before in
+    let enough = leb-true lineRoom _ (t .before .before .before .before .if2 .taken) in
+    let going = sym (t .before .before .before .before .before .before .is-over .ensures) ∙ not-true _ (t .before .before .before .before .before .if1 .taken) in
+    falls (a .loop .inv) enough (t .step .ensures) going
 
 loop-again : tie.Need-loop-again Inv-loop μ-loop
 loop-again c =
-    let x = c .before .before .before .before .before .before .before .before .before .before .before .before .before .before .before .before .before .before .before .before .args in
-    let l = c .before .before .before .before .before .before .before .before .before .before .before .before .before .before .before .loop in
-    let s = c .before .before .before .before .before .before .before .before .step in
-    let enough = leb-true lineRoom _ (c .before .before .before .before .before .before .before .before .before .before .before .before .if2 .taken) in
-    one-more (x .tape .now) (x .m) (x .out .now) (l .paper) (l .wire) (l .out) (l .machine) (l .written) (l .inv) enough (s .last .1 .1 .1 .1 .0) (s .result) (s .ensures)
-    (sym (c .before .before .before .before .before .before .before .before .before .before .before .before .before .before .is-over .ensures) ∙ not-true _ (c .before .before .before .before .before .before .before .before .before .before .before .before .before .if1 .taken)) _ _ (c .before .before .before .before .before .before .before .paper .given ∙ l .inv .paper) (c .before .before .before .before .before .wire .given ∙ l .inv .wire)
+    let t = c .before .before .before .before .before .before .before .before in
+    let a = t .before .before .before .before .before .before .before in
+    let enough = leb-true lineRoom _ (t .before .before .before .before .if2 .taken) in
+    let going = sym (t .before .before .before .before .before .before .is-over .ensures) ∙ not-true _ (t .before .before .before .before .before .if1 .taken) in
+    one-more (a .loop .inv) enough (t .step .ensures) going
+    (c .before .before .before .before .before .before .before .paper .given ∙ a .loop .inv .paperLong) (c .before .before .before .before .before .wire .given ∙ a .loop .inv .wireLong)
 
 same-length : tie.Need-same-length Inv-loop μ-loop
-same-length c = c .before .before .before .loop .inv .paper ∙ sym (c .before .before .before .before .before .before .before .before .pre .0)
+same-length c = c .before .before .before .loop .inv .paperLong ∙ sym (c .before .before .before .before .before .before .before .before .pre .0)
 
 same-length-2 : tie.Need-same-length-2 Inv-loop μ-loop
-same-length-2 c = c .before .before .before .loop .inv .wire ∙ sym (c .before .before .before .before .before .before .before .before .pre .1)
+same-length-2 c = c .before .before .before .loop .inv .wireLong ∙ sym (c .before .before .before .before .before .before .before .before .pre .1)
 
 same-length-3 : tie.Need-same-length-3 Inv-loop μ-loop
-same-length-3 c =
-    let x = c .before .before .before .before .before .before .before .before .args in
-    let l = c .before .before .before .loop in
-    still-long (x .tape .now) (x .m) (x .out .now) (l .paper) (l .wire) (l .out) (l .machine) (l .written) (l .inv)
+same-length-3 c = still-long (c .before .before .before .loop .inv)
 
 returns : tie.Need-returns Inv-loop μ-loop
 returns c =
-    let x = c .before .before .before .before .before .before .before .before .args in
     let l = c .before .before .before .loop in
-    run-met (x .tape .now) (x .m) (x .out .now) (l .paper) (l .wire) (l .out) (l .machine) (l .written) (l .inv)
-    (short-stops (x .tape .now) (x .m) (x .out .now) (l .paper) (l .wire) (l .out) (l .machine) (l .written) (l .inv) (c .if2 .left))
+    run-met (l .inv) (short-stops (l .inv) (c .if2 .left))
 
 same-length-4 : tie.Need-same-length-4 Inv-loop μ-loop
-same-length-4 c = c .before .before .loop .inv .paper ∙ sym (c .before .before .before .before .before .before .before .pre .0)
+same-length-4 c = c .before .before .loop .inv .paperLong ∙ sym (c .before .before .before .before .before .before .before .pre .0)
 
 same-length-5 : tie.Need-same-length-5 Inv-loop μ-loop
-same-length-5 c = c .before .before .loop .inv .wire ∙ sym (c .before .before .before .before .before .before .before .pre .1)
+same-length-5 c = c .before .before .loop .inv .wireLong ∙ sym (c .before .before .before .before .before .before .before .pre .1)
 
 same-length-6 : tie.Need-same-length-6 Inv-loop μ-loop
-same-length-6 c =
-    let x = c .before .before .before .before .before .before .before .args in
-    let l = c .before .before .loop in
-    still-long (x .tape .now) (x .m) (x .out .now) (l .paper) (l .wire) (l .out) (l .machine) (l .written) (l .inv)
+same-length-6 c = still-long (c .before .before .loop .inv)
 
 returns-2 : tie.Need-returns-2 Inv-loop μ-loop
 returns-2 c =
     let x = c .before .before .before .before .before .before .before .args in
     let l = c .before .before .loop in
-    run-met (x .tape .now) (x .m) (x .out .now) (l .paper) (l .wire) (l .out) (l .machine) (l .written) (l .inv)
+    run-met (l .inv)
     (over-stays (viewMachine (l .machine)) (length (x .out .now) - l .written) (sym (c .before .is-over .ensures) ∙ not-false _ (c .if1 .left)))
 
 pub run-lent-spec : {M : Type 1} → statement M

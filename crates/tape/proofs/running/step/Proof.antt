@@ -1,7 +1,7 @@
 use Rattle.tape.proofs.Machines.{step-long, step-field, step-item}
 use Rattle.tape.proofs.Steps.{stands, some-width, part-long}
-use Rattle.tape.specs.Kept.{viewMachine}
-use Rattle.tape.specs.Steps.{stepped}
+use Rattle.tape.specs.Refinement.Machine.{viewMachine}
+use Rattle.tape.specs.Refinement.Steps.{stepped}
 use Rattle.lists.proofs.Starts.{wrote-none}
 use native.Mathlib.Omega.{arith}
 use mathlib.Core.Path.{refl, sym, _∙_}

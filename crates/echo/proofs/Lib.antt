@@ -1,6 +1,0 @@
-pub mod Cells
-pub mod Widths
-pub mod Gathering
-pub mod Pressing
-pub mod Releasing
-pub mod Spending

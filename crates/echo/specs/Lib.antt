@@ -1,4 +1,0 @@
-pub mod Control
-pub mod Taking
-pub mod View
-pub mod Steps

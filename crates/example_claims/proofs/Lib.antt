@@ -1,0 +1,4 @@
+pub mod Examples
+pub mod Further
+pub mod Replaced
+pub mod Outside

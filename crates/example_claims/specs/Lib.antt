@@ -1,0 +1,9 @@
+pub mod Opened
+pub mod OpenedBulletin
+pub mod Showing
+pub mod Bytes
+pub mod Starred
+pub mod Further
+pub mod Listing
+pub mod Rfc560
+pub mod Replaced

@@ -1,0 +1,5 @@
+pub mod Pairs
+pub mod Together
+pub mod Calls
+pub mod Sessions
+pub mod Lent

@@ -1,0 +1,2 @@
+pub mod TwoSessions
+pub mod Lent

@@ -1,0 +1,3 @@
+pub mod Control
+pub mod Taking
+pub mod Refinement

@@ -1,0 +1,32 @@
+use mathlib.Core.Path.{_≡_, sym, ap}
+use borrow.Author.Tests.{eq-eqb}
+use lib.ListN.{length}
+use Rattle.received_macros.proofs.View.{lengths-all, unmarked-plain, marked-within}
+use Rattle.received_macros.specs.Refinement.{isText}
+use borrow.Author.Needs.{needs}
+use Rattle.received_macros.proofs.is_defined.Statement.{statement}
+use Rattle.received_macros.proofs.is_defined.Tie as tie
+
+mul-if1 : tie.Need-mul-if1
+mul-if1 c = search needs
+
+array-read-if1 : tie.Need-array-read-if1
+array-read-if1 c = search needs
+
+returns : tie.Need-returns
+returns c =
+    let a = c .before .before .args in
+    sym (ap isText (unmarked-plain (a .t) (a .x) (eq-eqb _ _ (c .if1 .taken))))
+
+start-of-requires : tie.Need-start-of-requires
+start-of-requires c κs = search needs
+
+returns-2 : tie.Need-returns-2
+returns-2 c =
+    let start = c .before .before .before in
+    let t = start .args .t in
+    let l : length (t .marks) ≡ 256 = search needs in
+    rw (c .start-of .ensures, lengths-all (t .marks) l) (marked-within t (start .args .x) (c .before .if1 .left))
+
+pub is-defined-spec : {M : Type 1} → statement M
+is-defined-spec = tie.close (tie.spec mul-if1 array-read-if1 returns start-of-requires returns-2)

@@ -1,3 +1,0 @@
-pub mod TwoSessions
-pub mod Laws
-pub mod Lent

@@ -1,1 +1,0 @@
-// What two sessions that differ in typed characters have in common. There is no code here.

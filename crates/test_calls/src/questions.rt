@@ -1,0 +1,79 @@
+// The questions about an end, and their answers in words. They are asked of the states by value.
+use crate::output;
+use crate::run;
+use crate::run::Run;
+use crate::words::Named;
+use bulletin::Output;
+use disposition::Handling;
+use sent_macros::Status;
+
+fn say_handling(h: Handling) {
+    match h {
+        Handling::Sender(n) => {
+            output::say(b"sender ");
+            output::say_number(n as usize);
+        }
+        Handling::Receiver(n) => {
+            output::say(b"receiver ");
+            output::say_number(n as usize);
+        }
+    }
+    output::say(b"\n");
+}
+
+fn say_status(s: Status) {
+    match s {
+        Status::Free => output::say(b"free\n"),
+        Status::Pending => output::say(b"pending\n"),
+        Status::PendingFree => output::say(b"pending as itself\n"),
+        Status::Accepted => output::say(b"accepted\n"),
+        Status::Refused => output::say(b"refused\n"),
+    }
+}
+
+fn say_output(o: Output) {
+    match o {
+        Output::Ready => output::say(b"ready\n"),
+        Output::Waiting => output::say(b"waiting\n"),
+    }
+}
+
+// `report` at the printer end.
+pub fn of_printer(run: Run, bytes: &[u8]) -> Run {
+    if bytes.len() > 0 {
+        return run::wrong_count(run);
+    }
+    let s = run.printer;
+    let h = printer::calls::report(s);
+    output::say_place(run.line, 1);
+    say_handling(h);
+    run
+}
+
+// `report` and `output` at the bulletin end.
+pub fn of_bulletin(run: Run, named: Named, bytes: &[u8]) -> Run {
+    if bytes.len() > 0 {
+        return run::wrong_count(run);
+    }
+    let s = run.bulletin;
+    output::say_place(run.line, 1);
+    match named {
+        Named::Report => {
+            let h = bulletin::calls::report(s);
+            say_handling(h);
+        }
+        _ => {
+            let o = bulletin::calls::output(s);
+            say_output(o);
+        }
+    }
+    run
+}
+
+pub fn status(run: Run, x: u8) -> Run {
+    let s = run.bulletin;
+    let status = bulletin::calls::macro_status(s, x);
+    output::say_place(run.line, 1);
+    say_status(status);
+    run
+}

@@ -1,5 +1,0 @@
-pub mod Examples
-pub mod Further
-pub mod Replaced
-pub mod Outside
-pub mod Lends
