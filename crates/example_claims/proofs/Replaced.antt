@@ -11,20 +11,20 @@ use Rattle.noninterference.specs.TwoSessions.Unprinted.{unprinted}
 use Rattle.noninterference.specs.TwoSessions.Typed.{char, line}
 use Rattle.example_claims.specs.Bytes.{reads}
 use Rattle.example_claims.specs.Opened.{printerRules}
-use Rattle.example_claims.specs.Replaced.{marks, typed, Met, Replaced}
+use Rattle.example_claims.specs.Replaced.{marks, typed, Instance, Replaced}
 
 same-reads : (bytes : List ℕ) → Agree (map (λ b. false) bytes) (reads bytes) (reads bytes)
 same-reads [] = none
 same-reads (b ∷ bytes) = same (same-reads bytes)
 
 -- lists that differ in their key alone agree
-agreed : {k l : Key} → Typed k → Typed l → (before behind : List ℕ) → Agree (marks before behind) (typed before k behind) (typed before l behind)
-agreed x y (b ∷ before) behind = same (agreed x y before behind)
-agreed x y [] behind = replaced x y (same-reads behind)
+agreed : {k l : Key} → Typed k → Typed l → (before later : List ℕ) → Agree (marks before later) (typed before k later) (typed before l later)
+agreed x y (b ∷ before) later = same (agreed x y before later)
+agreed x y [] later = replaced x y (same-reads later)
 
-met : {before behind : List ℕ} {k l : Key} → Typed k → Typed l → UnprintedIn (marks before behind) (typed before k behind)
-    → UnprintedIn (marks before behind) (typed before l behind) → Met before k l behind
-met {before} {behind} x y q r = record { agree = agreed x y before behind; unprinted = q; other = r }
+met : {before later : List ℕ} {k l : Key} → Typed k → Typed l → UnprintedIn (marks before later) (typed before k later)
+    → UnprintedIn (marks before later) (typed before l later) → Instance before k l later
+met {before} {later} x y q r = record { agree = agreed x y before later; unprinted = q; other = r }
 
 pub hypotheses-met : Replaced
 unfolding printerRules ofAccepted

@@ -34,8 +34,8 @@ pub fn queued(e: Rcte, k: Key) -> Rcte
         return e;
     }
     let mut waiting = e.waiting;
-    let packed = keys::key_number(k);
-    waiting[count] = packed;
+    let number = keys::key_number(k);
+    waiting[count] = number;
     let mut more = e;
     more.waiting = waiting;
     more.count = count + 1;

@@ -9,7 +9,7 @@ use Rattle.bulletin.proofs.Bulletin as P
 use Rattle.bulletin.proofs.Bulletin.Laws as P′
 use Rattle.bulletin.proofs.Answer as N
 use Rattle.bulletin.proofs.Answer.Laws as N′
-use Rattle.sessions.specs.LentAnswers.{bulletinAnswer}
+use Rattle.sessions.specs.Refinement.{bulletinAnswer}
 use Rattle.sessions.proofs.BulletinOutcome as O
 use Rattle.sessions.proofs.BulletinOutcome.Laws as O′
 use Rattle.sessions.proofs.Wrappers.{Plainly, Types, Laws, Joins, of-struct}

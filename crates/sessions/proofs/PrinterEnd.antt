@@ -9,7 +9,7 @@ use Rattle.printer.proofs.Printer as P
 use Rattle.printer.proofs.Printer.Laws as P′
 use Rattle.printer.proofs.Answer as N
 use Rattle.printer.proofs.Answer.Laws as N′
-use Rattle.sessions.specs.LentAnswers.{printerAnswer}
+use Rattle.sessions.specs.Refinement.{printerAnswer}
 use Rattle.sessions.proofs.PrinterOutcome as O
 use Rattle.sessions.proofs.PrinterOutcome.Laws as O′
 use Rattle.sessions.proofs.Wrappers.{Plainly, Types, Laws, Joins, of-struct}

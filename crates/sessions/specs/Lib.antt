@@ -1,1 +1,1 @@
-pub mod LentAnswers
+pub mod Refinement

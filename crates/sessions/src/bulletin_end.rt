@@ -15,7 +15,7 @@ ghost use Rattle.bulletin.specs.Calls.{
   outputNow,
 };
 ghost use Rattle.bulletin.specs.Refinement.{viewBulletin};
-ghost use Rattle.sessions.specs.LentAnswers.{RefinesOnBulletin, RefinesOnBulletinWire};
+ghost use Rattle.sessions.specs.Refinement.{RefinesOnBulletin, RefinesOnBulletinWire};
 use crate::BulletinOutcome;
 use bulletin::Bulletin;
 use bulletin::Output;

@@ -6,7 +6,7 @@ ghost use Rattle.lists.specs.Buffers.{lent};
 ghost use Rattle.disposition.specs.Returns.{reportOf};
 ghost use Rattle.printer.specs.Calls.{networkCall, keyCall, askCall, suggestCall, returnsReport};
 ghost use Rattle.printer.specs.Refinement.{viewPrinter};
-ghost use Rattle.sessions.specs.LentAnswers.{RefinesOnPrinter};
+ghost use Rattle.sessions.specs.Refinement.{RefinesOnPrinter};
 use crate::PrinterOutcome;
 use disposition::Handling;
 use keys::Key;

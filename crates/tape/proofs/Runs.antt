@@ -52,20 +52,20 @@ step-fits tape m =
     (either (λ (g : Progress). length (g .lines) ≤ lineRoom) (ltb (length rest) (width (m .place .tag))) (found-fits a (foundAt tape (m .place .next)))
     (line-room (viewPrinter (m .printer)) (lent .tails .paper) (lent .tails .wire) (sized-view (m .printer)) (m .place .field) (m .place .item) (itemOf (m .place .tag) (getD rest 0 0) (getD rest 1 0)))))
 
--- what was printed, and the run that is still to come
+-- what was output, and the run that is still to come
 pub record Runs (tape : List ℕ) (m₀ : Machine) (paper wire : List ℕ) (out : Lent) (m : Machine) (n : ℕ) : Type 0 where
   pub paperLong : length paper ≡ lentPaper
   pub wireLong : length wire ≡ lentWire
-  pub printed : List ℕ
-  pub wrote : WroteAtStart printed out n
-  pub room : RoomFor printed (out .before)
-  pub goes : ranFor tape (viewMachine m₀) (length (out .before)) ≡ linesFirst printed (ranFor tape (viewMachine m) (length (out .before) - n))
+  pub output : List ℕ
+  pub wrote : WroteAtStart output out n
+  pub room : RoomFor output (out .before)
+  pub goes : ranFor tape (viewMachine m₀) (length (out .before)) ≡ linesFirst output (ranFor tape (viewMachine m) (length (out .before) - n))
   pub clean : CleanPrinter (m₀ .printer) → CleanPrinter (m .printer)
 
 pub no-steps : (tape : List ℕ) (m : Machine) (paper wire out : List ℕ) → length paper ≡ lentPaper → length wire ≡ lentWire → Runs tape m paper wire (untouched out) m 0
 no-steps tape m paper wire out h l =
     let all : length out - 0 ≡ length out = omega arith in
-    record { paperLong = h; wireLong = l; printed = []; wrote = wrote-none out; room = omega arith; goes = rw all; clean = λ k. k }
+    record { paperLong = h; wireLong = l; output = []; wrote = wrote-none out; room = omega arith; goes = rw all; clean = λ k. k }
 
 module _ {tape : List ℕ} {m₀ : Machine} {paper wire : List ℕ} {out : Lent} {m : Machine} {n : ℕ} (runs : Runs tape m₀ paper wire out m n) where
   pub still-long : length (out .after) ≡ length (out .before)
@@ -95,7 +95,7 @@ module _ {tape : List ℕ} {m₀ : Machine} {paper wire : List ℕ} {out : Lent}
         record {
           paperLong = h;
           wireLong = l;
-          printed = runs .printed ++ lines;
+          output = runs .output ++ lines;
           wrote = wrote-then (runs .wrote) (runs .room) lines last (r .written) (met .lines);
           room = simp length-append (omega (arith, runs .wrote .count, step-fits tape m, still-long));
           goes = runs .goes ∙ rest;
@@ -111,11 +111,11 @@ module _ {tape : List ℕ} {m₀ : Machine} {paper wire : List ℕ} {out : Lent}
         left : length (out .before) - n - length (g .lines) ≡ length (out .before) - (n + r .written)
         left = omega (arith, met .lines .count)
 
-        rest : linesFirst (runs .printed) (ranFor tape (viewMachine m) (length (out .before) - n))
-            ≡ linesFirst (runs .printed ++ g .lines) (ranFor tape (viewMachine (r .machine)) (length (out .before) - (n + r .written)))
+        rest : linesFirst (runs .output) (ranFor tape (viewMachine m) (length (out .before) - n))
+            ≡ linesFirst (runs .output ++ g .lines) (ranFor tape (viewMachine (r .machine)) (length (out .before) - (n + r .written)))
         rest =
             rw (ran-next tape (viewMachine m) (length (out .before) - n) on, left, met .view)
-            (sym (behind-both (runs .printed) (g .lines) (ranFor tape (g .at) (length (out .before) - (n + r .written)))))
+            (sym (behind-both (runs .output) (g .lines) (ranFor tape (g .at) (length (out .before) - (n + r .written)))))
 
   -- the run stops, as the next line might not fit or as it is over
   pub short-stops : leb lineRoom (length (out .after) - n) ≡ false → goesOn (viewMachine m) (length (out .before) - n) ≡ false
@@ -126,6 +126,6 @@ module _ {tape : List ℕ} {m₀ : Machine} {paper wire : List ℕ} {out : Lent}
   pub run-met : goesOn (viewMachine m) (length (out .before) - n) ≡ false
       → RefinesProgress (ranFor tape (viewMachine m₀) (length (out .before))) m₀ out (record { written = n; machine = m })
   run-met stops =
-      let all : ranFor tape (viewMachine m₀) (length (out .before)) ≡ record { lines = runs .printed; at = viewMachine m }
-      = runs .goes ∙ (rw (ran-stops tape (viewMachine m) (length (out .before) - n) stops, append-nil (runs .printed))) in
+      let all : ranFor tape (viewMachine m₀) (length (out .before)) ≡ record { lines = runs .output; at = viewMachine m }
+      = runs .goes ∙ (rw (ran-stops tape (viewMachine m) (length (out .before) - n) stops, append-nil (runs .output))) in
       rw all (record { lines = runs .wrote; view = refl; clean = runs .clean })

@@ -21,7 +21,7 @@ use Rattle.bulletin.specs.Refinement.{viewBulletin}
 use Rattle.bulletin.specs.declared.Bulletin.{Bulletin}
 use Rattle.read_back.specs.TextSent.{Sending}
 use Rattle.bulletin.proofs.Determined as BD
-use Rattle.sessions.specs.LentAnswers.{bulletinAnswer}
+use Rattle.sessions.specs.Refinement.{bulletinAnswer}
 use Rattle.traces.specs.Chains.{Chain, Beside}
 use Rattle.traces.specs.Traces as P
 use Rattle.traces.specs.BulletinTraces as B

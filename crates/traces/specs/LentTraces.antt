@@ -19,7 +19,7 @@ use Rattle.bulletin.specs.Session as BS
 use Rattle.bulletin.specs.Refinement as BK
 use Rattle.bulletin.specs.Refinement.{viewBulletin}
 use Rattle.bulletin.specs.declared.Bulletin.{Bulletin}
-use Rattle.sessions.specs.LentAnswers.{printerAnswer, bulletinAnswer}
+use Rattle.sessions.specs.Refinement.{printerAnswer, bulletinAnswer}
 use Rattle.sessions.specs.declared.PrinterOutcome.{PrinterOutcome}
 use Rattle.sessions.specs.declared.BulletinOutcome.{BulletinOutcome}
 use Rattle.sessions.proofs.printer_end.network_byte as printer-network-byte
