@@ -1,5 +1,6 @@
 // Makes as many calls of the printer end as the first argument says, to be timed from outside. The second argument's
-// first letter says which: n network bytes, k keys sent at once, r keys under RCTE, a asks; without one each in turn.
+// first letter says which: n network bytes, b runs of 65,536 of them, u the same with a macro defined, m a macro's byte, k
+// keys sent at once, r keys under RCTE, w commands of RCTE that take up 256 keys, a asks; without one each in turn.
 ghost use Prim.Native.Nat.{_≤_};
 use keys::Key;
 use libc::STDOUT_FILENO;
@@ -59,6 +60,34 @@ fn network_bytes(s: Printer, times: usize, paper: &mut [u8], wire: &mut [u8]) ->
     sum
 }
 
+// The same bytes as a run, again and again.
+fn runs(s: Printer, bytes: &[u8], times: usize, paper: &mut [u8], wire: &mut [u8]) -> u64 {
+    let mut state = s;
+    let mut sum: u64 = 0;
+    let mut i: usize = 0;
+    while i < times {
+        let a = calls::network_bytes(state, bytes, paper, wire);
+        state = a.state;
+        sum = more(sum, a.paper, a.wire);
+        i += 1;
+    }
+    sum
+}
+
+// 256 keys that wait.
+fn with_waiting(s: Printer) -> Printer {
+    let mut paper = [0u8; 1024];
+    let mut wire = [0u8; 2048];
+    let mut state = s;
+    let mut i: usize = 0;
+    while i < 256 {
+        let a = calls::press(state, Key::Char(letter(i)), &mut paper, &mut wire);
+        state = a.state;
+        i += 1;
+    }
+    state
+}
+
 fn keys(s: Printer, times: usize, paper: &mut [u8], wire: &mut [u8]) -> u64 {
     let mut state = s;
     let mut sum: u64 = 0;
@@ -66,6 +95,18 @@ fn keys(s: Printer, times: usize, paper: &mut [u8], wire: &mut [u8]) -> u64 {
     while i < times {
         let a = calls::press(state, Key::Char(letter(i)), paper, wire);
         state = a.state;
+        sum = more(sum, a.paper, a.wire);
+        i += 1;
+    }
+    sum
+}
+
+// The last byte of a command, on the same state again and again.
+fn commands(s: Printer, times: usize, paper: &mut [u8], wire: &mut [u8]) -> u64 {
+    let mut sum: u64 = 0;
+    let mut i: usize = 0;
+    while i < times {
+        let a = calls::network_byte(s, 240, paper, wire);
         sum = more(sum, a.paper, a.wire);
         i += 1;
     }
@@ -94,6 +135,54 @@ fn run_network(s: Printer, times: usize) {
     let mut wire = [0u8; 2048];
     let bytes = network_bytes(s, times, &mut paper, &mut wire);
     say_done(b"network bytes", times, bytes);
+}
+
+// Plain text, each run in a buffer that takes all of it.
+fn run_runs(s: Printer, times: usize, what: &[u8]) {
+    let bytes = [b'e'; 65536];
+    let mut paper = [0u8; 66560];
+    let mut wire = [0u8; 2048];
+    let sum = runs(s, &bytes, times, &mut paper, &mut wire);
+    say_done(what, times, sum);
+}
+
+// BM in force, and byte 128 defined as 200 letters.
+fn with_macro(s: Printer) -> Printer {
+    let mut define = [b'e'; 208];
+    define[0] = 255;
+    define[1] = 250;
+    define[2] = 19;
+    define[3] = 1;
+    define[4] = 128;
+    define[5] = 200;
+    define[206] = 255;
+    define[207] = 240;
+    let t = heard(s, &[255, 251, 19]);
+    heard(t, &define)
+}
+
+fn run_unmarked_runs(s: Printer, times: usize) {
+    let t = with_macro(s);
+    run_runs(t, times, b"runs with a macro defined");
+}
+
+fn run_macros(s: Printer, times: usize) {
+    let t = with_macro(s);
+    let mut paper = [0u8; 1024];
+    let mut wire = [0u8; 2048];
+    let sum = runs(t, &[128], times, &mut paper, &mut wire);
+    say_done(b"macros", times, sum);
+}
+
+// RCTE's command that ends the hold, each time on the same state, in which 256 keys wait.
+fn run_commands(s: Printer, times: usize) {
+    let t = heard(s, &[255, 251, 7]);
+    let u = with_waiting(t);
+    let v = heard(u, &[255, 250, 7, 1, 255]);
+    let mut paper = [0u8; 1024];
+    let mut wire = [0u8; 2048];
+    let sum = commands(v, times, &mut paper, &mut wire);
+    say_done(b"commands with 256 keys", times, sum);
 }
 
 fn run_keys(s: Printer, times: usize, what: &[u8]) {
@@ -156,13 +245,21 @@ fn kind_asked() -> u8 {
 fn run(s: Printer, times: usize) {
     match kind_asked() {
         b'n' => run_network(s, times),
+        b'b' => run_runs(s, times, b"runs of network bytes"),
+        b'u' => run_unmarked_runs(s, times),
+        b'm' => run_macros(s, times),
         b'k' => run_keys(s, times, b"keys"),
         b'r' => run_rcte_keys(s, times),
+        b'w' => run_commands(s, times),
         b'a' => run_asks(s, times),
         _ => {
             run_network(s, times);
+            run_runs(s, times, b"runs of network bytes");
+            run_unmarked_runs(s, times);
+            run_macros(s, times);
             run_keys(s, times, b"keys");
             run_rcte_keys(s, times);
+            run_commands(s, times);
             run_asks(s, times);
         }
     }

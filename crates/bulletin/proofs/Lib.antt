@@ -7,6 +7,8 @@ pub mod Meeting
 pub mod Answering
 pub mod Rooms
 pub mod Bodies
+pub mod PlainBytes
+pub mod Runs
 pub mod ItemBytes
 pub mod Determined
 pub mod FreshBulletin

@@ -1,9 +1,12 @@
 pub mod State
 pub mod Network
+pub mod Stretches
 pub mod Calls
 pub mod Session
+pub mod NetworkRun
 pub mod Limits
 pub mod Apart
 pub mod Refinement
+pub mod RefinementOfRuns
 pub mod EmptyTable
 pub mod Determined

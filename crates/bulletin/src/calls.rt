@@ -19,14 +19,18 @@ ghost use Rattle.bulletin.specs.Calls.{
   returnsReport,
   outputNow,
 };
+ghost use Rattle.bulletin.specs.NetworkRun.{networkRun};
+ghost use Rattle.bulletin.specs.RefinementOfRuns.{RefinesRun};
 ghost use Rattle.bulletin.specs.Refinement.{viewBulletin, WholeBulletin, RefinesAnswer, RefinesAnswerOnWire, freshCells, refusal, answered};
 use crate::Answer;
 use crate::Bulletin;
 use crate::Output;
+use crate::RunAnswer;
 use crate::Step;
 use crate::items;
 use crate::moves;
 use crate::network;
+use crate::run;
 use codes::Code;
 use codes::DS;
 use codes::IAC;
@@ -88,6 +92,17 @@ pub fn network_byte(s: Bulletin, b: u8, host: &mut [u8], wire: &mut [u8]) -> Ans
     }
     let step = network::network_read(s, b, host, wire);
     done(step)
+}
+
+// Network bytes one after the other, each in what the one before left unused of the two buffers. Stops before one that would be
+// refused, and behind one that gave a note.
+pub fn network_bytes(s: Bulletin, bytes: &[u8], host: &mut [u8], wire: &mut [u8]) -> RunAnswer
+    ensures { λ r. ⌜ RefinesRun (networkRun (viewBulletin s) (now (bytes .entry))) s (lent host) (lent wire) r ⌝ }
+{
+    if reader::cannot_begin(bytes.len(), host.len(), wire.len()) {
+        return run::refused(s, Code::NoRoom);
+    }
+    run::read_bytes(s, bytes, host, wire)
 }
 
 // An option is asked for or given up: ways 0 and 1 disable and enable his side, 2 and 3 ours.

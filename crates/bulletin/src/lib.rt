@@ -11,6 +11,8 @@ pub mod calls;
 mod items;
 mod moves;
 mod network;
+mod run;
+mod stretches;
 
 // The whole state: negotiation, reader, macros, the two carriage-return values, and whether output waits (NAOCRD 254).
 pub struct Bulletin {
@@ -33,6 +35,16 @@ pub struct Step {
 pub struct Answer {
     pub code: Code,
     pub note: Note,
+    pub host: usize,
+    pub wire: usize,
+    pub state: Bulletin,
+}
+
+// The answer of a run of network bytes: a call's, with how many bytes were taken.
+pub struct RunAnswer {
+    pub code: Code,
+    pub note: Note,
+    pub taken: usize,
     pub host: usize,
     pub wire: usize,
     pub state: Bulletin,

@@ -64,6 +64,9 @@ refusedIf b c = record { holds = b; code = c }
 abbrev pub isDone : Code → Bool
 isDone c = eqb (codeNumber c) 0
 
+abbrev pub isClear : Note → Bool
+isClear n = eqb (noteNumber n) 0
+
 -- the code of the first guard that holds, in the order of the list; Done if none does
 unfoldable pub refusalOf : List Guard → Code
 refusalOf [] = Done

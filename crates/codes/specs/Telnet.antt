@@ -1,6 +1,7 @@
 -- Telnet's numbers: commands of RFC 854 and the options that are named.
-use mathlib.Core.Bool.{Bool, true, false}
+use mathlib.Core.Bool.{Bool, true, false, not}
 use Prim.Native.Nat.{ℕ}
+use lib.Dec.{eqb}
 use Rattle.lists.specs.Choice.{between}
 use Rattle.codes.specs.declared.Verb.{Verb}
 use Rattle.codes.specs.declared.Verb.the-variants.{Will, Wont, Do, Dont}
@@ -43,6 +44,10 @@ LF = 10
 
 abbrev pub CR : ℕ
 CR = 13
+
+-- any byte but IAC
+abbrev pub notIac : ℕ → Bool
+notIac b = not (eqb b IAC)
 
 abbrev pub ECHO : ℕ
 ECHO = 1

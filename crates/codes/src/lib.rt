@@ -1,6 +1,6 @@
 // What a call answers: a code and a note. Which side of an option is meant. Telnet's and the options' numbers.
 ghost use mathlib.Core.Path.{_≡_};
-ghost use Rattle.codes.specs.Answers.{codeNumber, noteNumber, firstNote, noRoom, noWire, isDone};
+ghost use Rattle.codes.specs.Answers.{codeNumber, noteNumber, firstNote, noRoom, noWire, isDone, isClear};
 ghost use Rattle.codes.specs.Telnet.{verbNumber, whoseOf, enables, plainCommand, otherSide};
 
 // The commands of RFC 854 that are told apart; NOP to GA may be keys.
@@ -169,6 +169,12 @@ pub fn is_done(c: Code) -> bool
     ensures { λ r. ⌜ r ≡ isDone c ⌝ }
 {
     code_number(c) == 0
+}
+
+pub fn is_clear(n: Note) -> bool
+    ensures { λ r. ⌜ r ≡ isClear n ⌝ }
+{
+    note_number(n) == 0
 }
 
 // The byte behind IAC.

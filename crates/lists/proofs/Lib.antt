@@ -15,3 +15,4 @@ pub mod ReadOff
 pub mod Paired
 pub mod Same
 pub mod Known
+pub mod Fronts

@@ -28,7 +28,7 @@ record Both (ms marks : List Bool) (cs ds : List Call) (s t : PrinterState) : Ty
       → AllSameWidth (marksFrom ms marks cs s) (takeUps (answersFrom s cs)) (takeUps (answersFrom t ds))
       → Each SameSent (answersFrom s cs) (answersFrom t ds)
 
-with-mark : (ms : List Bool) (m : Bool) (later : List Bool) (b : Bool) → ms ++ (cond b (m ∷ []) [] ++ later) ≡ marksWith ms b m ++ later
+pub with-mark : (ms : List Bool) (m : Bool) (later : List Bool) (b : Bool) → ms ++ (cond b (m ∷ []) [] ++ later) ≡ marksWith ms b m ++ later
 with-mark ms m later true = sym (append-assoc ms (m ∷ []) later)
 with-mark ms m later false = refl
 

@@ -4,14 +4,8 @@ use mathlib.Core.Bool.{Bool, true, false, _&&_, _||_, not, false≢true, cond}
 use mathlib.Core.List.{[], _∷_}
 use Prim.Native.Nat.{ℕ}
 use Rattle.received_macros.specs.Texts.{Entry, plain, entryOf}
-use borrow.Author.Tests.{not-true}
-use lib.Dec.{eqb}
-use Rattle.lists.proofs.Tables.{both-left, both-right}
-use Rattle.codes.specs.Telnet.{IAC}
-use Rattle.reader.specs.declared.Phase.{Phase}
-use Rattle.reader.specs.declared.Phase.the-variants.{Between, AfterIac, AfterVerb, InBody, InBodyAfterIac}
-use Rattle.reader.specs.declared.Item.the-variants.{Data}
-use Rattle.reader.specs.Reading.{read, readIn, gives, byteBy, isBetween, isData}
+use Rattle.reader.specs.Reading.{byteBy, isBetween, isData}
+use Rattle.reader.proofs.DataBytes.{read-data}
 use Rattle.printer.specs.State.{PrinterState, withReader, printing, rcteInForce, bmInForce}
 use Rattle.printer.specs.Refinement.{isOrdinary}
 use Rattle.printer.specs.Network.{dataRead, itemRead, byteRead, entryRead, networkRead}
@@ -20,21 +14,10 @@ both-same : {D : Type 0} (t : Bool) (x y : D) → x ≡ y → cond t x y ≡ y
 both-same true x y e = e
 both-same false x y e = refl
 
-between : (p : Phase) → isBetween p ≡ true → p ≡ Between
-between Between e = refl
-between AfterIac e = absurd (false≢true e)
-between (AfterVerb v) e = absurd (false≢true e)
-between InBody e = absurd (false≢true e)
-between InBodyAfterIac e = absurd (false≢true e)
-
 -- data, for which the reader stays as it is
 pub data-byte : (s : PrinterState) (b : ℕ) → isData (s .reader .phase) b ≡ true → byteRead s b ≡ dataRead s b
-unfolding byteRead read
-data-byte s b e =
-    let plain = not-true (eqb b IAC) (both-left (not (eqb b IAC)) (isBetween (s .reader .phase)) e) in
-    let here = between (s .reader .phase) (both-right (not (eqb b IAC)) (isBetween (s .reader .phase)) e) in
-    let as-read : readIn (s .reader .phase) (s .reader) b ≡ gives (Data b) (s .reader) = rw (here, plain) in
-    ap (byteBy withReader itemRead s) as-read
+unfolding byteRead
+data-byte s b e = ap (byteBy withReader itemRead s) (read-data (s .reader) b e)
 
 -- a byte that stands for itself
 pub plain-read : (s : PrinterState) (b : ℕ) → entryOf (s .table) b ≡ plain → networkRead s b ≡ byteRead s b

@@ -8,7 +8,10 @@ pub mod Answering
 pub mod Replying
 pub mod Bodies
 pub mod Choosing
+pub mod PlainBytes
 pub mod Texts
+pub mod TextStretch
+pub mod Runs
 pub mod Invariant
 pub mod EmptyTable
 pub mod FreshPrinter

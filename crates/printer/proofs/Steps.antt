@@ -1,14 +1,12 @@
 -- Steps put one behind the other.
-use mathlib.Core.Path.{_≡_, refl, sym, ap}
+use mathlib.Core.Path.{_≡_, sym, ap}
 use mathlib.Core.Bool.{true, false}
 use mathlib.Core.List.{List, [], append-assoc, append-nil}
 use Prim.Native.Nat.{ℕ, suc, _+_, _<_}
 use native.Mathlib.Numerals.{add-one}
 use lib.ListN.{length, drop, getD}
 use lib.Seq.{drop-cons}
-use Rattle.codes.specs.Answers.{firstNote}
-use Rattle.codes.specs.declared.Note.{Note}
-use Rattle.codes.specs.declared.Note.the-variants.{Clear, Unreadable, Inactive, OtherOption, Stray}
+use Rattle.codes.proofs.Notes.{first-assoc, first-clear}
 use Rattle.negotiation.specs.declared.Side.the-variants.{Rcte}
 use Rattle.negotiation.specs.declared.OptionState.{OptionState}
 use Rattle.negotiation.specs.Table.{isYes}
@@ -16,13 +14,6 @@ use Rattle.negotiation.specs.declared.Sides.{Sides}
 use Rattle.negotiation.specs.Carried.{moved}
 use Rattle.printer.specs.State.{PrinterState, Effect, nothing, followed, rcteInForce, withSides}
 use Rattle.printer.specs.Network.{rcteMoved, sideMoved, byteRead, bytesRead}
-
-first-assoc : (a b c : Note) → firstNote (firstNote a b) c ≡ firstNote a (firstNote b c)
-first-assoc Clear b c = refl
-first-assoc Unreadable b c = refl
-first-assoc Inactive b c = refl
-first-assoc OtherOption b c = refl
-first-assoc Stray b c = refl
 
 pub followed-assoc : (a b c : Effect) → followed (followed a b) c ≡ followed a (followed b c)
 followed-assoc a b c =
@@ -36,13 +27,6 @@ unfolding bytesRead
 text-next acc text i lt =
     rw (drop-cons text i 0 lt, add-one i)
     (sym (followed-assoc acc (byteRead (acc .state) (getD text i 0)) (bytesRead (byteRead (acc .state) (getD text i 0) .state) (drop (suc i) text))))
-
-first-clear : (n : Note) → firstNote n Clear ≡ n
-first-clear Clear = refl
-first-clear Unreadable = refl
-first-clear Inactive = refl
-first-clear OtherOption = refl
-first-clear Stray = refl
 
 -- a step behind which nothing happens
 pub followed-nothing : (d : Effect) → followed d (nothing (d .state)) ≡ d

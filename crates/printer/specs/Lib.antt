@@ -1,10 +1,13 @@
 pub mod State
 pub mod Network
+pub mod Stretches
 pub mod Calls
 pub mod Session
 pub mod KeyOrder
 pub mod UnusedTails
+pub mod NetworkRun
 pub mod Limits
 pub mod Refinement
+pub mod RefinementOfRuns
 pub mod EmptyTable
 pub mod Apart

@@ -6,12 +6,16 @@ ghost use Rattle.rcte.specs.Control.{isFull};
 ghost use Rattle.printer.specs.State.{rcteInForce};
 ghost use Rattle.printer.specs.Calls.{networkCall, keyCall, keyTyped, askCall, suggestCall, returnsReport};
 ghost use Rattle.lists.specs.Buffers.{lent, RoomFor};
+ghost use Rattle.printer.specs.NetworkRun.{networkRun};
+ghost use Rattle.printer.specs.RefinementOfRuns.{RefinesRun};
 ghost use Rattle.printer.specs.Refinement.{WholePrinter, viewPrinter, RefinesAnswer, RefinesStep, freshCells, refusal, answered};
 use crate::Answer;
 use crate::Printer;
+use crate::RunAnswer;
 use crate::Step;
 use crate::moves;
 use crate::network;
+use crate::run;
 use codes::Code;
 use codes::DR;
 use codes::Note;
@@ -85,6 +89,17 @@ pub fn network_byte(s: Printer, b: u8, paper: &mut [u8], wire: &mut [u8]) -> Ans
     }
     let step = network::network_read(s, b, paper, wire);
     done(step)
+}
+
+// Network bytes one after the other, each in what the one before left unused of the two buffers. Stops before one that would be
+// refused, and behind one that gave a note.
+pub fn network_bytes(s: Printer, bytes: &[u8], paper: &mut [u8], wire: &mut [u8]) -> RunAnswer
+    ensures { λ r. ⌜ RefinesRun (networkRun (viewPrinter s) (now (bytes .entry))) s (lent paper) (lent wire) r ⌝ }
+{
+    if reader::cannot_begin(bytes.len(), paper.len(), wire.len()) {
+        return run::refused(s, Code::NoRoom);
+    }
+    run::read_bytes(s, bytes, paper, wire)
 }
 
 // RCTE holds keys back, and as many wait as can.

@@ -11,6 +11,8 @@ mod body;
 pub mod calls;
 mod moves;
 mod network;
+mod run;
+mod stretches;
 
 // The whole state: negotiation, reader, macros, RCTE's control, the two carriage-return values.
 pub struct Printer {
@@ -33,6 +35,16 @@ pub struct Step {
 pub struct Answer {
     pub code: Code,
     pub note: Note,
+    pub paper: usize,
+    pub wire: usize,
+    pub state: Printer,
+}
+
+// The answer of a run of network bytes: a call's, with how many bytes were taken.
+pub struct RunAnswer {
+    pub code: Code,
+    pub note: Note,
+    pub taken: usize,
     pub paper: usize,
     pub wire: usize,
     pub state: Printer,

@@ -9,6 +9,7 @@ use crate::Printer;
 use crate::Step;
 use crate::body;
 use crate::moves;
+use crate::stretches;
 use codes::Note;
 use negotiation::End;
 use negotiation::Sides;
@@ -90,7 +91,7 @@ pub fn byte_read(s: Printer, b: u8, paper: &mut [u8], wire: &mut [u8]) -> Step
     item_read(t, item, paper, wire)
 }
 
-// The bytes of a macro's text, in reading order; the first note is kept.
+// The bytes of a macro's text, in reading order; the first note is kept. A plain stretch is printed by one copy.
 fn text_read(s: Printer, text: Text, paper: &mut [u8], wire: &mut [u8]) -> Step
     requires { ⌜ text .len ≤ 255 ⌝ }
     requires { ⌜ RoomFor (bytesRead (viewPrinter s) (textIn text) .paper) (now paper) ⌝ }
@@ -105,8 +106,18 @@ fn text_read(s: Printer, text: Text, paper: &mut [u8], wire: &mut [u8]) -> Step
     let mut p: usize = 0;
     let mut w: usize = 0;
     while i < count {
-        let b = bytes[i];
-        let step = byte_read(state, b, &mut paper[p..], &mut wire[w..]);
+        let sides = state.sides;
+        let reading = state.reader;
+        let phase = reading.phase;
+        let n = stretches::text_stretch(sides, phase, state.rcte.held, &bytes[i..count]);
+        if n > 0 {
+            let end = i + n;
+            let copied = wire::put_bytes(&bytes[i..end], &mut paper[p..]);
+            p += copied;
+            i = end;
+            continue;
+        }
+        let step = byte_read(state, bytes[i], &mut paper[p..], &mut wire[w..]);
         p += step.paper;
         w += step.wire;
         let said = step.note;

@@ -14,6 +14,13 @@ use codes::Verb;
 use codes::WILL;
 use codes::WONT;
 
+mod fronts;
+mod network_runs;
+
+pub use fronts::text_front;
+pub use network_runs::cannot_begin;
+pub use network_runs::reach;
+
 // The first bytes of a body that are kept, its option among them.
 pub const BODY_ROOM: usize = 260;
 

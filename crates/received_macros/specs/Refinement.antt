@@ -1,12 +1,13 @@
 -- The receiving table as the code keeps it: a mark for each byte, and the texts without gaps, that of a lower byte first.
 use mathlib.Core.Path.{_≡_}
-use mathlib.Core.Bool.{Bool, true, false, cond}
+use mathlib.Core.Bool.{Bool, true, false, _&&_, cond}
 use mathlib.Core.List.{List, [], _∷_, _++_, map}
 use Prim.Native.Nat.{ℕ, _+_, _-_, _≤_, min}
 use lib.ListN.{length, getD, take, drop, replicate}
 use lib.Dec.{ltb, eqb}
 use Rattle.lists.specs.Lists.{sum}
 use Rattle.lists.specs.Buffers.{Clean}
+use Rattle.codes.specs.Telnet.{notIac}
 use Rattle.received_macros.specs.declared.Verdict.{Verdict}
 use Rattle.received_macros.specs.declared.Verdict.the-variants.{Accepted, Refused}
 use Rattle.received_macros.specs.declared.Texts.{Texts}
@@ -39,6 +40,10 @@ emptyCells = record { marks = replicate 256 0; cells = replicate textRoom 0 }
 
 abbrev pub isUnmarked : List ℕ → ℕ → Bool
 isUnmarked marks x = eqb (getD marks x 0) 0
+
+-- .. and begins no command
+abbrev pub isUnmarkedText : List ℕ → ℕ → Bool
+isUnmarkedText marks x = notIac x && isUnmarked marks x
 
 -- no mark is over 256, and the cells past the texts are 0
 pub record CleanTexts (t : Texts) : Type 0 where

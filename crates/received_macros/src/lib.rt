@@ -25,6 +25,10 @@ use codes::BM;
 use codes::IAC;
 use codes::REFUSE;
 
+mod fronts;
+
+pub use fronts::unmarked_front;
+
 // A mark for each byte.
 const BYTES: usize = 256;
 

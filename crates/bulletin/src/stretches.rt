@@ -1,0 +1,17 @@
+// How many bytes are plain, so that they are given to the host by one copy and the state is not looked at for each.
+ghost use mathlib.Core.Path.{_≡_};
+ghost use Rattle.bulletin.specs.Stretches.{dataStretch};
+use reader::Phase;
+
+// A byte that ends a wait changes the state, and is not plain.
+pub fn data_stretch(phase: Phase, awaiting: bool, bytes: &[u8]) -> usize
+    ensures { λ r. ⌜ r ≡ dataStretch phase awaiting (now (bytes .entry)) ⌝ }
+{
+    if !reader::is_between(phase) {
+        return 0;
+    }
+    if awaiting {
+        return 0;
+    }
+    reader::text_front(bytes)
+}
