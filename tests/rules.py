@@ -20,7 +20,7 @@ SHORT = 300  # bytes of a tape that computes quickly
 
 FUNCTION = re.compile(r"^(pub )?fn .*?^\}\n", re.M | re.S)
 GHOST = re.compile(r"^ghost use [^;]*;\n", re.M)
-PASSED_ON = re.compile(r"^pub use \w+::[a-z]\w*;\n", re.M)  # a module's function that lib.rt passes on
+PASSED_ON = re.compile(r"^(pub use \w+|use (crate|super)(::\w+)*)::[a-z]\w*;\n", re.M)  # a function, or a module of them, that is named
 ABOVE = re.compile(r"^use Rattle·(?!lists\.|%s·)\w+\.proofs\." % CLAIMS, re.M)  # a proof about other crates' proofs
 ERROR = re.compile(r"^\S*/crates/(\w+)/(specs|proofs)/(\S+?)\.antt:\d+:\d+: error: `([^`]+)`(.*(?:\n  .*)*)", re.M)
 
