@@ -7,3 +7,4 @@ pub mod BulletinTraces
 pub mod BulletinContracts
 pub mod BothEnds
 pub mod LentTraces
+pub mod ArrayTraces
