@@ -12,6 +12,12 @@ pub data Beside {X Y : Type 0} (R : X → Y → Type 0) : List X → List Y → 
   none : Beside R [] []
   more : {x : X} {y : Y} {xs : List X} {ys : List Y} → R x y → Beside R xs ys → Beside R (x ∷ xs) (y ∷ ys)
 
+-- a chain of other calls from state s on, related one by one to the calls of a list
+pub record BesideChain {S M N : Type 0} (Meets : S → N → Type 0) (after : N → S) (R : M → N → Type 0) (s : S) (ms : List M) : Type 0 where
+  pub calls : List N
+  pub chain : Chain Meets after s calls
+  pub related : Beside R ms calls
+
 -- the state behind the calls
 unfoldable pub lastOf : {S M : Type 0} → (M → S) → S → List M → S
 lastOf after s [] = s

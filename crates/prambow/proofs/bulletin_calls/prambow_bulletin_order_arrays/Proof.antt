@@ -1,0 +1,30 @@
+use Rattle.bulletin.specs.Calls.{orderCall}
+use Rattle.prambow.proofs.BulletinArrays.{on-arrays-wire}
+use borrow.Author.Needs.{needs}
+use Rattle.prambow.proofs.bulletin_calls.prambow_bulletin_order_arrays.Statement.{
+  statement,
+}
+use Rattle.prambow.proofs.bulletin_calls.prambow_bulletin_order_arrays.Tie as tie
+
+decoded-requires : tie.Need-decoded-requires
+decoded-requires c κs = search needs
+
+order-requires : tie.Need-order-requires
+order-requires c κs = search needs
+
+kept-requires : tie.Need-kept-requires
+kept-requires c κs = search needs
+
+same-length : tie.Need-same-length
+same-length c = search needs
+
+returns : tie.Need-returns
+returns c =
+    let call = c .before .before .before .before .before .before .before .before .before in
+    let found = call .before .before in
+    let a = found .before .before .before .before .before .before .before .before .args in
+    on-arrays-wire (λ t. orderCall t (a .cmd) (a .breaks) (a .sends)) (found .decoded .ensures) (call .order .ensures) (c .kept .ensures)
+
+pub prambow-bulletin-order-arrays-spec : {M : Type 1} → statement M
+prambow-bulletin-order-arrays-spec =
+    tie.close (tie.spec decoded-requires order-requires kept-requires same-length returns)

@@ -1,0 +1,32 @@
+use Rattle.printer.specs.Calls.{askCall}
+use Rattle.prambow.proofs.PrinterArrays.{on-arrays}
+use borrow.Author.Needs.{needs}
+use Rattle.prambow.proofs.printer_calls.prambow_printer_ask_arrays.Statement.{statement}
+use Rattle.prambow.proofs.printer_calls.prambow_printer_ask_arrays.Tie as tie
+
+decoded-requires : tie.Need-decoded-requires
+decoded-requires c κs = search needs
+
+ask-requires : tie.Need-ask-requires
+ask-requires c κs = search needs
+
+kept-requires : tie.Need-kept-requires
+kept-requires c κs = search needs
+
+same-length : tie.Need-same-length
+same-length c = search needs
+
+same-length-2 : tie.Need-same-length-2
+same-length-2 c = search needs
+
+returns : tie.Need-returns
+returns c =
+    let call = c .before .before .before .before .before .before .before .before .before .before .before .before .before in
+    let found = call .before .before .before in
+    let a = found .before .before .before .before .before .before .before .before .before .before .before .args in
+    on-arrays (λ t. askCall t (a .option) (a .way)) (found .decoded .ensures) (call .ask .ensures) (c .kept .ensures)
+
+pub prambow-printer-ask-arrays-spec : {M : Type 1} → statement M
+prambow-printer-ask-arrays-spec =
+    tie.close
+    (tie.spec decoded-requires ask-requires kept-requires same-length same-length-2 returns)

@@ -1,0 +1,3 @@
+pub mod BulletinArrays
+pub mod Numbers
+pub mod PrinterArrays

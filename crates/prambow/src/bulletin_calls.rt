@@ -1,0 +1,205 @@
+// The bulletin end's calls on arrays that the host lends, as the printer end's. None asks anything of its caller.
+ghost use mathlib.Core.Path.{_≡_};
+ghost use Rattle.lists.specs.Buffers.{lent};
+ghost use Rattle.bulletin.specs.Calls.{networkCall, askCall, suggestCall, orderCall, defineCall, useCall, textCall};
+ghost use Rattle.bulletin.specs.Refinement.{freshCells};
+ghost use Rattle.prambow.specs.Numbers.{keyOfPair};
+ghost use Rattle.prambow.specs.BulletinArrays.{
+  lentBulletin,
+  encodedBulletin,
+  RefinesOnBulletinArrays,
+  RefinesOnBulletinArraysWire,
+  ReportsBulletin,
+  SaysOutput,
+  SaysStatus,
+};
+use crate::Outcome;
+use crate::Reported;
+use crate::bulletin_arrays;
+use crate::numbers;
+use bulletin::calls;
+use negotiation::End;
+use reader::BODY_ROOM;
+use received_macros::ROOM;
+
+#[no_mangle]
+pub extern "C" fn prambow_bulletin_fresh_arrays(
+    small: &mut [u8; 11],
+    counts: &mut [usize; 1],
+    body: &mut [u8; BODY_ROOM],
+    statuses: &mut [u8; 256],
+    marks: &mut [u16; 256],
+    cells: &mut [u8; ROOM],
+)
+    ensures { λ r. ⌜ lentBulletin small counts body statuses marks cells .after ≡ encodedBulletin freshCells ⌝ }
+{
+    let s = calls::fresh();
+    bulletin_arrays::store(s, small, counts, body, statuses, marks, cells);
+}
+
+#[no_mangle]
+pub extern "C" fn prambow_bulletin_network_byte_arrays(
+    small: &mut [u8; 11],
+    counts: &mut [usize; 1],
+    body: &mut [u8; BODY_ROOM],
+    statuses: &mut [u8; 256],
+    marks: &mut [u16; 256],
+    cells: &mut [u8; ROOM],
+    b: u8,
+    host: &mut [u8],
+    wire: &mut [u8],
+) -> Outcome
+    ensures { λ r. ⌜ RefinesOnBulletinArrays (λ t. networkCall t b) (lentBulletin small counts body statuses marks cells) (lent host) (lent wire) r ⌝ }
+{
+    let s = bulletin_arrays::decoded(small, counts, body, statuses, marks, cells);
+    let a = calls::network_byte(s, b, host, wire);
+    bulletin_arrays::kept(a, small, counts, body, statuses, marks, cells)
+}
+
+#[no_mangle]
+pub extern "C" fn prambow_bulletin_ask_arrays(
+    small: &mut [u8; 11],
+    counts: &mut [usize; 1],
+    body: &mut [u8; BODY_ROOM],
+    statuses: &mut [u8; 256],
+    marks: &mut [u16; 256],
+    cells: &mut [u8; ROOM],
+    option: u8,
+    way: u8,
+    wire: &mut [u8],
+) -> Outcome
+    ensures { λ r. ⌜ RefinesOnBulletinArraysWire (λ t. askCall t option way) (lentBulletin small counts body statuses marks cells) (lent wire) r ⌝ }
+{
+    let s = bulletin_arrays::decoded(small, counts, body, statuses, marks, cells);
+    let a = calls::ask(s, option, way, wire);
+    bulletin_arrays::kept(a, small, counts, body, statuses, marks, cells)
+}
+
+#[no_mangle]
+pub extern "C" fn prambow_bulletin_suggest_arrays(
+    small: &mut [u8; 11],
+    counts: &mut [usize; 1],
+    body: &mut [u8; BODY_ROOM],
+    statuses: &mut [u8; 256],
+    marks: &mut [u16; 256],
+    cells: &mut [u8; ROOM],
+    v: u8,
+    wire: &mut [u8],
+) -> Outcome
+    ensures { λ r. ⌜ RefinesOnBulletinArraysWire (λ t. suggestCall t v) (lentBulletin small counts body statuses marks cells) (lent wire) r ⌝ }
+{
+    let s = bulletin_arrays::decoded(small, counts, body, statuses, marks, cells);
+    let a = calls::suggest(s, v, wire);
+    bulletin_arrays::kept(a, small, counts, body, statuses, marks, cells)
+}
+
+#[no_mangle]
+pub extern "C" fn prambow_bulletin_order_arrays(
+    small: &mut [u8; 11],
+    counts: &mut [usize; 1],
+    body: &mut [u8; BODY_ROOM],
+    statuses: &mut [u8; 256],
+    marks: &mut [u16; 256],
+    cells: &mut [u8; ROOM],
+    cmd: u8,
+    breaks: u16,
+    sends: u16,
+    wire: &mut [u8],
+) -> Outcome
+    ensures { λ r. ⌜ RefinesOnBulletinArraysWire (λ t. orderCall t cmd breaks sends) (lentBulletin small counts body statuses marks cells) (lent wire) r ⌝ }
+{
+    let s = bulletin_arrays::decoded(small, counts, body, statuses, marks, cells);
+    let a = calls::order(s, cmd, breaks, sends, wire);
+    bulletin_arrays::kept(a, small, counts, body, statuses, marks, cells)
+}
+
+#[no_mangle]
+pub extern "C" fn prambow_bulletin_define_arrays(
+    small: &mut [u8; 11],
+    counts: &mut [usize; 1],
+    body: &mut [u8; BODY_ROOM],
+    statuses: &mut [u8; 256],
+    marks: &mut [u16; 256],
+    cells: &mut [u8; ROOM],
+    x: u8,
+    text: &[u8],
+    wire: &mut [u8],
+) -> Outcome
+    ensures { λ r. ⌜ RefinesOnBulletinArraysWire (λ t. defineCall t x (now (text .entry))) (lentBulletin small counts body statuses marks cells) (lent wire) r ⌝ }
+{
+    let s = bulletin_arrays::decoded(small, counts, body, statuses, marks, cells);
+    let a = calls::define(s, x, text, wire);
+    bulletin_arrays::kept(a, small, counts, body, statuses, marks, cells)
+}
+
+#[no_mangle]
+pub extern "C" fn prambow_bulletin_use_macro_arrays(
+    small: &mut [u8; 11],
+    counts: &mut [usize; 1],
+    body: &mut [u8; BODY_ROOM],
+    statuses: &mut [u8; 256],
+    marks: &mut [u16; 256],
+    cells: &mut [u8; ROOM],
+    x: u8,
+    wire: &mut [u8],
+) -> Outcome
+    ensures { λ r. ⌜ RefinesOnBulletinArraysWire (λ t. useCall t x) (lentBulletin small counts body statuses marks cells) (lent wire) r ⌝ }
+{
+    let s = bulletin_arrays::decoded(small, counts, body, statuses, marks, cells);
+    let a = calls::use_macro(s, x, wire);
+    bulletin_arrays::kept(a, small, counts, body, statuses, marks, cells)
+}
+
+// The item is a pair of numbers, as a key; one that stands for none is refused with code 3.
+#[no_mangle]
+pub extern "C" fn prambow_bulletin_text_item_arrays(
+    small: &mut [u8; 11],
+    counts: &mut [usize; 1],
+    body: &mut [u8; BODY_ROOM],
+    statuses: &mut [u8; 256],
+    marks: &mut [u16; 256],
+    cells: &mut [u8; ROOM],
+    kind: u8,
+    b: u8,
+    wire: &mut [u8],
+) -> Outcome
+    ensures { λ r. ⌜ RefinesOnBulletinArraysWire (λ t. textCall t (keyOfPair kind b)) (lentBulletin small counts body statuses marks cells) (lent wire) r ⌝ }
+{
+    let s = bulletin_arrays::decoded(small, counts, body, statuses, marks, cells);
+    let k = numbers::key_of_pair(kind, b);
+    let a = calls::text_item(s, k, wire);
+    bulletin_arrays::kept(a, small, counts, body, statuses, marks, cells)
+}
+
+// How the last DEFINE of a byte stands. It looks at BM's state and the statuses alone.
+#[no_mangle]
+pub extern "C" fn prambow_bulletin_macro_status_arrays(
+    small: &[u8; 11],
+    statuses: &[u8; 256],
+    x: u8,
+) -> u8
+    ensures { λ r. ⌜ SaysStatus x (now (small .entry)) (now (statuses .entry)) r ⌝ }
+{
+    let sides = numbers::sides_of(small[0], small[1], small[2], small[3], small[4], small[5]);
+    if negotiation::macros_in_force(End::Bulletin, sides) {
+        let status = sent_macros::status_at(statuses, x);
+        return sent_macros::status_number(status);
+    }
+    0
+}
+
+// Who handles carriage returns, and how. It looks at the small parts alone.
+#[no_mangle]
+pub extern "C" fn prambow_bulletin_report_arrays(small: &[u8; 11]) -> Reported
+    ensures { λ r. ⌜ ReportsBulletin (now (small .entry)) r ⌝ }
+{
+    numbers::reported(small[5], small[9], small[10])
+}
+
+// Whether output waits: 0 ready, 1 waiting.
+#[no_mangle]
+pub extern "C" fn prambow_bulletin_output_arrays(small: &[u8; 11]) -> u8
+    ensures { λ r. ⌜ SaysOutput (now (small .entry)) r ⌝ }
+{
+    numbers::flag_number(small[8] != 0)
+}

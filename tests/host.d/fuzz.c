@@ -1,0 +1,168 @@
+/* Calls on records of random bytes, with buffers of random lengths, some NULL with length 0. Record, text and buffers each end
+ * at a page that cannot be touched, so a byte too far is a fault. Of each call it is seen that a refusal changes no byte, and
+ * that a call which is done writes just the bytes that it counts, and leaves `unused` alone.
+ *
+ * usage: fuzz SEED CALLS */
+#define _DEFAULT_SOURCE
+#include "prambow.h"
+#include <stdio.h>
+#include <stdlib.h>
+#include <string.h>
+#include <sys/mman.h>
+
+#define AREA 16384
+
+static uint64_t state;
+
+static uint64_t random_number(void)
+{
+    state ^= state << 13;
+    state ^= state >> 7;
+    state ^= state << 17;
+    return state;
+}
+
+static size_t below(size_t n)
+{
+    return (size_t)(random_number() % n);
+}
+
+/* An area whose end is a page without access. */
+static uint8_t *area(void)
+{
+    uint8_t *start = mmap(NULL, 2 * AREA, PROT_READ | PROT_WRITE, MAP_PRIVATE | MAP_ANONYMOUS, -1, 0);
+    if (start == MAP_FAILED || mprotect(start + AREA, AREA, PROT_NONE) != 0)
+        exit(2);
+    return start;
+}
+
+/* Lent bytes: the last of an area, or NULL. */
+typedef struct {
+    uint8_t *area, *at, was[AREA];
+    size_t len;
+} lent;
+
+static void lend(lent *l, size_t len, int wild)
+{
+    l->len = len;
+    l->at = len == 0 && below(2) ? NULL : l->area + AREA - len;
+    for (size_t i = 0; i < len; i++)
+        l->at[i] = wild ? (uint8_t)random_number() : (uint8_t)below(8);
+    if (len)
+        memcpy(l->was, l->at, len);
+}
+
+static int same_from(const lent *l, size_t from)
+{
+    return from <= l->len && (l->len == from || memcmp(l->was + from, l->at + from, l->len - from) == 0);
+}
+
+static size_t some_length(size_t room)
+{
+    static const size_t near[] = {0, 1, 2};
+    switch (below(12)) {
+    case 0:
+        return near[below(3)];
+    case 1:
+        return below(2 * room);
+    case 2:
+        return room - 1;
+    default:
+        return room + below(3);
+    }
+}
+
+static lent record, data, wire, text;
+
+/* Records are wild, or nearly those of a session: small numbers, a count now and then out of range. */
+static void lend_record(size_t size)
+{
+    lend(&record, size, below(2) == 0);
+    if (below(2))
+        memset(record.at, 0, 3 * sizeof(size_t) < size ? sizeof(size_t) : 0);
+    memcpy(record.was, record.at, size);
+}
+
+static prambow_outcome at_printer(prambow_printer *p)
+{
+    uint8_t x = (uint8_t)random_number(), y = (uint8_t)random_number();
+    switch (below(5)) {
+    case 0:
+        return prambow_printer_press(p, x % 4, y, data.at, data.len, wire.at, wire.len);
+    case 1:
+        return prambow_printer_ask(p, below(2) ? x : 7, y % 5, data.at, data.len, wire.at, wire.len);
+    case 2:
+        return prambow_printer_suggest(p, x, data.at, data.len, wire.at, wire.len);
+    default:
+        return prambow_printer_network_byte(p, below(3) ? x : 240 + x % 16, data.at, data.len, wire.at, wire.len);
+    }
+}
+
+static prambow_outcome at_bulletin(prambow_bulletin *b)
+{
+    uint8_t x = (uint8_t)random_number(), y = (uint8_t)random_number();
+    lend(&text, some_length(256), 1);
+    switch (below(8)) {
+    case 0:
+        return prambow_bulletin_ask(b, below(2) ? x : 19, y % 5, wire.at, wire.len);
+    case 1:
+        return prambow_bulletin_suggest(b, x, wire.at, wire.len);
+    case 2:
+        return prambow_bulletin_order(b, x % 40, (uint16_t)random_number(), y, wire.at, wire.len);
+    case 3:
+        return prambow_bulletin_define(b, x, text.at, text.len, wire.at, wire.len);
+    case 4:
+        return prambow_bulletin_use_macro(b, x, wire.at, wire.len);
+    case 5:
+        return prambow_bulletin_text_item(b, x % 4, y, wire.at, wire.len);
+    default:
+        return prambow_bulletin_network_byte(b, below(3) ? x : 240 + x % 16, data.at, data.len, wire.at, wire.len);
+    }
+}
+
+static int holds(prambow_outcome o, size_t unused)
+{
+    if (o.code > PRAMBOW_OUTPUT_WAITS || o.note > PRAMBOW_STRAY)
+        return 0;
+    if (o.code != PRAMBOW_DONE && (o.note || o.first || o.wire || !same_from(&record, 0)))
+        return 0;
+    return same_from(&data, o.first) && same_from(&wire, o.wire) && same_from(&record, record.len - unused);
+}
+
+static int questions_hold(int printer)
+{
+    prambow_report r;
+    if (printer) {
+        const prambow_printer *p = (const prambow_printer *)record.at;
+        r = prambow_printer_report(p);
+        return r.who <= PRAMBOW_SENDER && prambow_printer_waiting(p) <= 256;
+    }
+    const prambow_bulletin *b = (const prambow_bulletin *)record.at;
+    r = prambow_bulletin_report(b);
+    return r.who <= PRAMBOW_SENDER && prambow_bulletin_output(b) <= PRAMBOW_WAITING &&
+           prambow_bulletin_macro_status(b, (uint8_t)random_number()) <= PRAMBOW_REFUSED;
+}
+
+int main(int argc, char **argv)
+{
+    unsigned long calls = argc > 2 ? strtoul(argv[2], NULL, 10) : 1000, done = 0;
+    state = 88172645463325252u ^ (argc > 1 ? strtoul(argv[1], NULL, 10) : 1);
+    record.area = area();
+    data.area = area();
+    wire.area = area();
+    text.area = area();
+    for (unsigned long i = 0; i < calls; i++) {
+        int printer = (int)below(2);
+        lend(&data, some_length(PRAMBOW_PAPER_ROOM), 1);
+        lend(&wire, some_length(PRAMBOW_WIRE_ROOM), 1);
+        lend_record(printer ? PRAMBOW_PRINTER_SIZE : PRAMBOW_BULLETIN_SIZE);
+        prambow_outcome o = printer ? at_printer((prambow_printer *)record.at) : at_bulletin((prambow_bulletin *)record.at);
+        done += o.code == PRAMBOW_DONE;
+        if (!holds(o, printer ? 3 : 1) || !questions_hold(printer)) {
+            printf("call %lu at the %s end: code %u note %u\n", i, printer ? "printer" : "bulletin", (unsigned)o.code, (unsigned)o.note);
+            return 1;
+        }
+    }
+    printf("%lu of %lu calls done\n", done, calls);
+    return 0;
+}

@@ -1,0 +1,116 @@
+// A host of both ends in Rust. First a tape from standard input on a printer end, with the lines that `replay` prints. Then the
+// macro session of session.c, in which each end is given what the other sends.
+#[path = "../../include/prambow.rs"]
+mod prambow;
+use prambow::{Bulletin, Outcome, Printer, BM, CHAR, ENABLE_OURS, PAPER_ROOM, WIRE_ROOM};
+use std::io::Read;
+
+const MACRO: u8 = 0x80;
+
+fn hex(bytes: &[u8]) -> String {
+    if bytes.is_empty() {
+        return "-".to_string();
+    }
+    bytes.iter().map(|b| format!("{:02X}", b)).collect()
+}
+
+struct Host {
+    printer: Printer,
+    bulletin: Bulletin,
+    paper: [u8; PAPER_ROOM],
+    wire: [u8; WIRE_ROOM],
+    line: Vec<u8>, // what one end sent, and the other is to read
+}
+
+impl Host {
+    fn new() -> Host {
+        Host {
+            printer: Printer::fresh(),
+            bulletin: Bulletin::fresh(),
+            paper: [0; PAPER_ROOM],
+            wire: [0; WIRE_ROOM],
+            line: Vec::new(),
+        }
+    }
+
+    fn run_tape(&mut self, tape: &[u8]) {
+        let (mut at, mut field) = (0, 1);
+        while at + 3 <= tape.len() {
+            let (tag, size) = (tape[at], 256 * tape[at + 1] as usize + tape[at + 2] as usize);
+            let body = &tape[at + 3..at + 3 + size];
+            for (i, b) in body.chunks(if tag == 1 { 1 } else { 2 }).enumerate() {
+                let (paper, wire) = (&mut self.paper, &mut self.wire);
+                let o = match tag {
+                    1 => self.printer.network_byte(b[0], paper, wire),
+                    2 => self.printer.press(b[0], b[1], paper, wire),
+                    _ => self.printer.ask(b[0], b[1], paper, wire),
+                };
+                if o.code != 0 || o.first != 0 || o.wire != 0 {
+                    println!("{}.{} {} {} {}", field, i + 1, o.code, hex(&paper[..o.first]), hex(&wire[..o.wire]));
+                }
+            }
+            at += 3 + size;
+            field += 1;
+        }
+    }
+
+    // A call's answer, and its wire bytes put on the line.
+    fn answered(&mut self, o: Outcome) {
+        let (paper, wire) = (&self.paper[..o.first], &self.wire[..o.wire]);
+        if o.code != 0 || o.note != 0 || o.first != 0 || o.wire != 0 {
+            println!("{} {} {} {}", o.code, o.note, hex(paper), hex(wire));
+        }
+        self.line.extend_from_slice(wire);
+    }
+
+    // What stands on the line is read by an end, but for a byte that is lost.
+    fn read_line(&mut self, at_printer: bool, lost: Option<usize>) {
+        let came = std::mem::take(&mut self.line);
+        for (i, &b) in came.iter().enumerate() {
+            if Some(i) == lost {
+                continue;
+            }
+            let o = if at_printer {
+                self.printer.network_byte(b, &mut self.paper, &mut self.wire)
+            } else {
+                self.bulletin.network_byte(b, &mut self.paper, &mut self.wire)
+            };
+            self.answered(o);
+        }
+    }
+
+    fn define(&mut self, text: &[u8], lost: Option<usize>) {
+        let o = self.bulletin.define(MACRO, text, &mut self.wire);
+        self.answered(o);
+        self.read_line(true, lost);
+        self.read_line(false, None);
+    }
+
+    fn use_macro(&mut self) {
+        let o = self.bulletin.use_macro(MACRO, &mut self.wire);
+        self.answered(o);
+    }
+
+    fn run_macros(&mut self) {
+        let o = self.bulletin.ask(BM, ENABLE_OURS, &mut self.wire);
+        self.answered(o);
+        self.read_line(true, None);
+        self.read_line(false, None);
+        self.define(b"OLD", None);
+        self.use_macro();
+        self.read_line(true, None);
+        self.define(b"NEW", Some(6));
+        self.use_macro();
+        let o = self.bulletin.text_item(CHAR, MACRO, &mut self.wire);
+        self.answered(o);
+        self.read_line(true, None);
+        println!("status {}", self.bulletin.macro_status(MACRO));
+    }
+}
+
+fn main() {
+    let mut tape = Vec::new();
+    std::io::stdin().read_to_end(&mut tape).expect("a tape on standard input");
+    Host::new().run_tape(&tape);
+    Host::new().run_macros();
+}
