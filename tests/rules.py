@@ -18,7 +18,7 @@ PART = 250  # terms to a definition: a long list is written as a sum of short on
 MOST = 1024  # bytes to a line
 SHORT = 300  # bytes of a tape that computes quickly
 
-FUNCTION = re.compile(r"^(pub )?fn .*?^\}\n", re.M | re.S)
+FUNCTION = re.compile(r'^(#\[no_mangle\]\n)?(pub )?(extern "C" )?fn .*?^\}\n', re.M | re.S)
 GHOST = re.compile(r"^ghost use [^;]*;\n", re.M)
 PASSED_ON = re.compile(r"^(pub use \w+|use (crate|super)(::\w+)*)::[a-z]\w*;\n", re.M)  # a function, or a module of them, that is named
 ABOVE = re.compile(r"^use Rattle·(?!lists\.|%s·)\w+\.proofs\." % CLAIMS, re.M)  # a proof about other crates' proofs

@@ -80,10 +80,14 @@ pub record BulletinSameCall (m : BulletinOnArrays) (n : B.AnsweredCall) : Type 0
 abbrev pub BulletinArraysAsByValue : Type 0
 BulletinArraysAsByValue = (s : Bulletin) (ms : List BulletinOnArrays) → BulletinArraysTrace (encodedBulletin s) ms → BesideChain B.MeetsContract B.after BulletinSameCall s ms
 
+-- what the contract of a call that lends no buffer for data says
+abbrev pub BulletinMeetsOnArraysWire : BulletinArrays → B.Args → Lent → Outcome → BulletinArrays → Type 0
+BulletinMeetsOnArraysWire a args wire r next = RefinesOnBulletinArraysWire (λ t w. BS.called t (B.withSizes args 0 w)) (record { before = a; after = next }) wire r
+
 -- Assumed: of a call on arrays that lends no buffer for data, what its contract says. Promised: it is what a trace asks of
 -- that call, whatever data the host has. Ruled out: an ask that writes to the host's data.
 abbrev pub BulletinArraysOnWire : Type 0
 BulletinArraysOnWire =
     (m : BulletinOnArrays) (a : BulletinArrays) (host : List ℕ) → lendsData (m .args) ≡ false → m .host ≡ untouched host
-    → RefinesOnBulletinArraysWire (λ t w. BS.called t (B.withSizes (m .args) 0 w)) (record { before = a; after = m .next }) (m .wire) (m .outcome)
+    → BulletinMeetsOnArraysWire a (m .args) (m .wire) (m .outcome) (m .next)
     → BulletinMeetsOnArrays a m
