@@ -101,6 +101,15 @@ typedef struct prambow_outcome {
     size_t wire;   /* bytes on the wire */
 } prambow_outcome;
 
+/* What a run of network bytes answers; a note is that of the last byte taken. */
+typedef struct prambow_run {
+    uint32_t code; /* PRAMBOW_DONE, or PRAMBOW_NO_ROOM at the first byte */
+    uint32_t note; /* PRAMBOW_CLEAR, or what the last byte's body or command met */
+    size_t taken;  /* bytes that were read */
+    size_t first;  /* bytes on the paper, at the bulletin end for the host */
+    size_t wire;   /* bytes on the wire */
+} prambow_run;
+
 /* What a report says: PRAMBOW_RECEIVER or PRAMBOW_SENDER, and by which value. */
 typedef struct prambow_report {
     uint8_t who;
@@ -164,7 +173,7 @@ static inline void prambow_printer_fresh(prambow_printer *s)
     prambow_printer_fresh_arrays(PRAMBOW_PRINTER_OF(s));
 }
 
-/* A byte from the network. Of the calls it alone gives notes. */
+/* A byte from the network. It gives notes, as runs of bytes do, and no other call. */
 prambow_outcome prambow_printer_network_byte_arrays(PRAMBOW_PRINTER_ARRAYS, uint8_t b, uint8_t *paper,
     size_t paper_len, uint8_t *wire, size_t wire_len);
 
@@ -172,6 +181,18 @@ static inline prambow_outcome prambow_printer_network_byte(prambow_printer *s, u
     size_t paper_len, uint8_t *wire, size_t wire_len)
 {
     return prambow_printer_network_byte_arrays(PRAMBOW_PRINTER_OF(s), b, paper, paper_len, wire, wire_len);
+}
+
+/* Bytes from the network one after the other, each in what the ones before left of the buffers. It stops before a byte for
+ * which a buffer is too small, and behind one that gave a note: call it again with the rest. The fast way to read. */
+prambow_run prambow_printer_network_bytes_arrays(PRAMBOW_PRINTER_ARRAYS, const uint8_t *bytes, size_t bytes_len,
+    uint8_t *paper, size_t paper_len, uint8_t *wire, size_t wire_len);
+
+static inline prambow_run prambow_printer_network_bytes(prambow_printer *s, const uint8_t *bytes, size_t bytes_len,
+    uint8_t *paper, size_t paper_len, uint8_t *wire, size_t wire_len)
+{
+    return prambow_printer_network_bytes_arrays(PRAMBOW_PRINTER_OF(s), bytes, bytes_len, paper, paper_len, wire,
+        wire_len);
 }
 
 /* A key: PRAMBOW_CHAR, PRAMBOW_LINE with b 0, or PRAMBOW_COMMAND with b 241 to 249. Refused: 1, 3, 2. */
@@ -220,7 +241,7 @@ static inline size_t prambow_printer_waiting(const prambow_printer *s)
     return prambow_printer_waiting_arrays(s->counts);
 }
 
-/* The bulletin end. Only a network byte has data for the host; no other call is lent a buffer for it. */
+/* The bulletin end. Only network bytes have data for the host; no other call is lent a buffer for it. */
 
 /* Makes a record a fresh end, whatever it held before. */
 void prambow_bulletin_fresh_arrays(PRAMBOW_BULLETIN_ARRAYS);
@@ -230,7 +251,7 @@ static inline void prambow_bulletin_fresh(prambow_bulletin *s)
     prambow_bulletin_fresh_arrays(PRAMBOW_BULLETIN_OF(s));
 }
 
-/* A byte from the network. Of the calls it alone gives notes. */
+/* A byte from the network. It gives notes, as runs of bytes do, and no other call. */
 prambow_outcome prambow_bulletin_network_byte_arrays(PRAMBOW_BULLETIN_ARRAYS, uint8_t b, uint8_t *host,
     size_t host_len, uint8_t *wire, size_t wire_len);
 
@@ -238,6 +259,17 @@ static inline prambow_outcome prambow_bulletin_network_byte(prambow_bulletin *s,
     size_t host_len, uint8_t *wire, size_t wire_len)
 {
     return prambow_bulletin_network_byte_arrays(PRAMBOW_BULLETIN_OF(s), b, host, host_len, wire, wire_len);
+}
+
+/* Bytes from the network one after the other, as at the printer end. */
+prambow_run prambow_bulletin_network_bytes_arrays(PRAMBOW_BULLETIN_ARRAYS, const uint8_t *bytes, size_t bytes_len,
+    uint8_t *host, size_t host_len, uint8_t *wire, size_t wire_len);
+
+static inline prambow_run prambow_bulletin_network_bytes(prambow_bulletin *s, const uint8_t *bytes,
+    size_t bytes_len, uint8_t *host, size_t host_len, uint8_t *wire, size_t wire_len)
+{
+    return prambow_bulletin_network_bytes_arrays(PRAMBOW_BULLETIN_OF(s), bytes, bytes_len, host, host_len, wire,
+        wire_len);
 }
 
 /* Asks for an option or gives it up. Refused: 1, 4, 11, 5. */

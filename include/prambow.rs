@@ -32,6 +32,17 @@ pub struct Outcome {
     pub wire: usize,
 }
 
+/// What a run of network bytes answers: the same, and how many bytes were read; a note is that of the last of them.
+#[derive(Clone, Copy, Debug, PartialEq, Eq)]
+#[repr(C)]
+pub struct Run {
+    pub code: u32,
+    pub note: u32,
+    pub taken: usize,
+    pub first: usize,
+    pub wire: usize,
+}
+
 /// Who handles carriage returns, 0 the receiver and 1 the sender, and by which value.
 #[derive(Clone, Copy, Debug, PartialEq, Eq)]
 #[repr(C)]
@@ -76,6 +87,11 @@ extern "C" {
         marks: &mut [u16; 256], cells: &mut [u8; 1024], waiting: &mut [u16; 256], gathered: &mut [u8; 512], b: u8,
         paper: *mut u8, paper_len: usize, wire: *mut u8, wire_len: usize,
     ) -> Outcome;
+    fn prambow_printer_network_bytes_arrays(
+        small: &mut [u8; 13], classes: &mut [u16; 2], counts: &mut [usize; 3], body: &mut [u8; 260],
+        marks: &mut [u16; 256], cells: &mut [u8; 1024], waiting: &mut [u16; 256], gathered: &mut [u8; 512],
+        bytes: *const u8, bytes_len: usize, paper: *mut u8, paper_len: usize, wire: *mut u8, wire_len: usize,
+    ) -> Run;
     fn prambow_printer_press_arrays(
         small: &mut [u8; 13], classes: &mut [u16; 2], counts: &mut [usize; 3], body: &mut [u8; 260],
         marks: &mut [u16; 256], cells: &mut [u8; 1024], waiting: &mut [u16; 256], gathered: &mut [u8; 512], kind: u8,
@@ -102,6 +118,11 @@ extern "C" {
         marks: &mut [u16; 256], cells: &mut [u8; 1024], b: u8, host: *mut u8, host_len: usize, wire: *mut u8,
         wire_len: usize,
     ) -> Outcome;
+    fn prambow_bulletin_network_bytes_arrays(
+        small: &mut [u8; 11], counts: &mut [usize; 1], body: &mut [u8; 260], statuses: &mut [u8; 256],
+        marks: &mut [u16; 256], cells: &mut [u8; 1024], bytes: *const u8, bytes_len: usize, host: *mut u8,
+        host_len: usize, wire: *mut u8, wire_len: usize,
+    ) -> Run;
     fn prambow_bulletin_ask_arrays(
         small: &mut [u8; 11], counts: &mut [usize; 1], body: &mut [u8; 260], statuses: &mut [u8; 256],
         marks: &mut [u16; 256], cells: &mut [u8; 1024], option: u8, way: u8, wire: *mut u8, wire_len: usize,
@@ -164,12 +185,27 @@ impl Printer {
         s
     }
 
-    /// A byte from the network. Of the calls it alone gives notes.
+    /// A byte from the network. It gives notes, as runs of bytes do, and no other call.
     pub fn network_byte(&mut self, b: u8, paper: &mut [u8], wire: &mut [u8]) -> Outcome {
         on_printer!(
             self,
             prambow_printer_network_byte_arrays,
             b,
+            paper.as_mut_ptr(),
+            paper.len(),
+            wire.as_mut_ptr(),
+            wire.len()
+        )
+    }
+
+    /// Bytes from the network one after the other, each in what the ones before left of the buffers. Stops before a byte for
+    /// which a buffer is too small, and behind one that gave a note: call it again with the rest.
+    pub fn network_bytes(&mut self, bytes: &[u8], paper: &mut [u8], wire: &mut [u8]) -> Run {
+        on_printer!(
+            self,
+            prambow_printer_network_bytes_arrays,
+            bytes.as_ptr(),
+            bytes.len(),
             paper.as_mut_ptr(),
             paper.len(),
             wire.as_mut_ptr(),
@@ -244,12 +280,26 @@ impl Bulletin {
         s
     }
 
-    /// A byte from the network. Of the calls it alone gives notes.
+    /// A byte from the network. It gives notes, as runs of bytes do, and no other call.
     pub fn network_byte(&mut self, b: u8, host: &mut [u8], wire: &mut [u8]) -> Outcome {
         on_bulletin!(
             self,
             prambow_bulletin_network_byte_arrays,
             b,
+            host.as_mut_ptr(),
+            host.len(),
+            wire.as_mut_ptr(),
+            wire.len()
+        )
+    }
+
+    /// Bytes from the network one after the other, as at the printer end.
+    pub fn network_bytes(&mut self, bytes: &[u8], host: &mut [u8], wire: &mut [u8]) -> Run {
+        on_bulletin!(
+            self,
+            prambow_bulletin_network_bytes_arrays,
+            bytes.as_ptr(),
+            bytes.len(),
             host.as_mut_ptr(),
             host.len(),
             wire.as_mut_ptr(),

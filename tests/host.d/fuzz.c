@@ -1,6 +1,7 @@
 /* Calls on records of random bytes, with buffers of random lengths, some NULL with length 0. Record, text and buffers each end
  * at a page that cannot be touched, so a byte too far is a fault. Of each call it is seen that a refusal changes no byte, and
- * that a call which is done writes just the bytes that it counts, and leaves `unused` alone.
+ * that a call which is done writes just the bytes that it counts, and leaves `unused` alone. A run of network bytes does what
+ * as many calls with one byte do, and stops where it should.
  *
  * usage: fuzz SEED CALLS */
 #define _DEFAULT_SOURCE
@@ -129,6 +130,77 @@ static int holds(prambow_outcome o, size_t unused)
     return same_from(&data, o.first) && same_from(&wire, o.wire) && same_from(&record, record.len - unused);
 }
 
+typedef union {
+    prambow_printer printer;
+    prambow_bulletin bulletin;
+} session;
+
+static prambow_outcome one_byte(int printer, session *s, uint8_t b, uint8_t *d, size_t dn, uint8_t *w, size_t wn)
+{
+    if (printer)
+        return prambow_printer_network_byte(&s->printer, b, d, dn, w, wn);
+    return prambow_bulletin_network_byte(&s->bulletin, b, d, dn, w, wn);
+}
+
+/* Bytes with many commands among them. */
+static void lend_bytes(void)
+{
+    static const uint8_t often[] = {255, 255, 255, 251, 252, 253, 254, 250, 240, 241, 3, 3, 7, 10, 19, 65};
+    lend(&text, below(80), 1);
+    for (size_t i = 0; i < text.len; i++)
+        if (below(3))
+            text.at[i] = often[below(sizeof often)];
+}
+
+/* The record, wild or as a call leaves it, is read from in a run, and a copy of it byte by byte. */
+static unsigned long taken; /* bytes of all runs */
+
+static int run_holds(int printer)
+{
+    static session copy;
+    static uint8_t d[AREA], w[AREA], after[PRAMBOW_PAPER_ROOM], reply[PRAMBOW_WIRE_ROOM];
+    session *s = (session *)record.at;
+    prambow_run r;
+    prambow_outcome o = {0, 0, 0, 0};
+    size_t i, first = 0, sent = 0;
+    if (below(4)) { /* room for more than a byte */
+        lend(&data, PRAMBOW_PAPER_ROOM + below(300), 1);
+        lend(&wire, PRAMBOW_WIRE_ROOM + below(300), 1);
+    }
+    lend_bytes();
+    memcpy(&copy, record.at, record.len);
+    if (data.len)
+        memcpy(d, data.at, data.len);
+    if (wire.len)
+        memcpy(w, wire.at, wire.len);
+    if (printer)
+        r = prambow_printer_network_bytes(&s->printer, text.at, text.len, data.at, data.len, wire.at, wire.len);
+    else
+        r = prambow_bulletin_network_bytes(&s->bulletin, text.at, text.len, data.at, data.len, wire.at, wire.len);
+    for (i = 0; i < r.taken && i < text.len && o.note == 0; i++) {
+        o = one_byte(printer, &copy, text.at[i], d + first, data.len - first, w + sent, wire.len - sent);
+        if (o.code != PRAMBOW_DONE)
+            return 0;
+        first += o.first;
+        sent += o.wire;
+    }
+    taken += r.taken;
+    if (i != r.taken || o.note != r.note || first != r.first || sent != r.wire)
+        return 0;
+    o = one_byte(printer, &copy, 0, NULL, 0, NULL, 0);
+    if (i < text.len && r.note == 0)
+        o = one_byte(printer, &copy, text.at[i], d + first, data.len - first, w + sent, wire.len - sent);
+    if (o.code != PRAMBOW_NO_ROOM || r.code != (i == 0 && text.len > 0 ? (uint32_t)PRAMBOW_NO_ROOM : (uint32_t)PRAMBOW_DONE))
+        return 0;
+    if ((data.len && memcmp(d, data.at, data.len)) || (wire.len && memcmp(w, wire.at, wire.len)))
+        return 0;
+    if (r.code != PRAMBOW_DONE && !same_from(&record, 0))
+        return 0;
+    one_byte(printer, &copy, 'a', after, sizeof after, reply, sizeof reply);
+    one_byte(printer, s, 'a', after, sizeof after, reply, sizeof reply);
+    return memcmp(&copy, record.at, record.len) == 0;
+}
+
 static int questions_hold(int printer)
 {
     prambow_report r;
@@ -156,6 +228,13 @@ int main(int argc, char **argv)
         lend(&data, some_length(PRAMBOW_PAPER_ROOM), 1);
         lend(&wire, some_length(PRAMBOW_WIRE_ROOM), 1);
         lend_record(printer ? PRAMBOW_PRINTER_SIZE : PRAMBOW_BULLETIN_SIZE);
+        if (below(4) == 0 && !run_holds(printer)) {
+            printf("call %lu at the %s end: a run is not its one-byte calls\n", i, printer ? "printer" : "bulletin");
+            return 1;
+        }
+        memcpy(record.was, record.at, record.len);
+        lend(&data, data.len, 1);
+        lend(&wire, wire.len, 1);
         prambow_outcome o = printer ? at_printer((prambow_printer *)record.at) : at_bulletin((prambow_bulletin *)record.at);
         done += o.code == PRAMBOW_DONE;
         if (!holds(o, printer ? 3 : 1) || !questions_hold(printer)) {
@@ -163,6 +242,6 @@ int main(int argc, char **argv)
             return 1;
         }
     }
-    printf("%lu of %lu calls done\n", done, calls);
+    printf("%lu of %lu calls done, %lu bytes in runs\n", done, calls, taken);
     return 0;
 }

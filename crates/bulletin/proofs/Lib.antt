@@ -9,6 +9,7 @@ pub mod Rooms
 pub mod Bodies
 pub mod PlainBytes
 pub mod Runs
+pub mod InPlace
 pub mod ItemBytes
 pub mod Determined
 pub mod FreshBulletin

@@ -8,5 +8,6 @@ pub mod Limits
 pub mod Apart
 pub mod Refinement
 pub mod RefinementOfRuns
+pub mod InPlace
 pub mod EmptyTable
 pub mod Determined

@@ -8,11 +8,12 @@ use sent_macros::SendingTable;
 
 mod body;
 pub mod calls;
+pub mod in_place;
 mod items;
 mod moves;
 mod network;
 mod run;
-mod stretches;
+pub mod stretches;
 
 // The whole state: negotiation, reader, macros, the two carriage-return values, and whether output waits (NAOCRD 254).
 pub struct Bulletin {

@@ -9,6 +9,9 @@ use Rattle.keys.specs.declared.Key.{Key}
 use Rattle.keys.specs.declared.Key.the-variants.{Char, Line, Command}
 use Rattle.rcte.specs.Taking.{How}
 use Rattle.rcte.specs.Taking.How.{atOnce, under}
+use Rattle.codes.specs.Answers.{codeNumber, noteNumber}
+use Rattle.printer.specs.State.{fresh}
+use Rattle.printer.specs.NetworkRun.{networkRun}
 use Rattle.printer.specs.Session as PS
 use Rattle.bulletin.specs.Session as BS
 use Rattle.printer.specs.UnusedTails.{lentAfresh}
@@ -56,6 +59,12 @@ howBehind before calls = map (λ t. howNumber (t .how)) (flatMap (λ a. a .effec
 abbrev nulIsMacro : List BS.Call
 nulIsMacro = BS.ask 19 3 2048 ∷ hears (0xff ∷ 0xfd ∷ 0x13 ∷ []) ++ BS.define 0 (0x41 ∷ []) 2048 ∷ hears (body (0x13 ∷ 0x02 ∷ 0x00 ∷ [])) ++ senderHandles ++ receiverSays 2
 
+-- a run of network bytes on a fresh printer end: its code and note, how many bytes it took, and what it printed
+abbrev runOf : List ℕ → (paper wire : ℕ) → List ℕ
+runOf bytes paper wire =
+    let a = networkRun fresh bytes paper wire in
+    codeNumber (a .code) ∷ noteNumber (a .ran .effect .note) ∷ a .ran .taken ∷ a .ran .effect .paper
+
 abbrev pub further : List Example
 further =
     -- RCTE is refused beside ECHO, not agreed and then silent
@@ -78,10 +87,10 @@ further =
     ∷ example (sentCodesBehind (senderHandles ++ receiverSays 254) (sendsItem Line ++ sendsItem (Char 65) ++ sendsItem (Command 1) ++ hears (0x41 ∷ []) ++ sendsItem (Char 65))) (0 ∷ 13 ∷ 3 ∷ 0 ∷ 0 ∷ [])
     -- a tape of one byte too many prints `bad tape 0` and nothing else
     ∷ example (tapeOutput (replicate 65537 4)) (0x62 ∷ 0x61 ∷ 0x64 ∷ 0x20 ∷ 0x74 ∷ 0x61 ∷ 0x70 ∷ 0x65 ∷ 0x20 ∷ 0x30 ∷ 0x0a ∷ [])
-    -- the run of a tape lends its paper buffer afresh where less than the room of code 1 is left of it
-    ∷ example (map (λ n. lentAfresh programs (record { paper = n; wire = 8192 }) .paper) (1023 ∷ 1024 ∷ [])) (4096 ∷ 1024 ∷ [])
-    -- .. and its wire buffer
-    ∷ example (map (λ n. lentAfresh programs (record { paper = 4096; wire = n }) .wire) (2047 ∷ 2048 ∷ [])) (8192 ∷ 2048 ∷ [])
+    -- the run of a tape lends a buffer afresh where less than the room of code 1 is left of it
+    ∷ example (map (λ n. lentAfresh programs (record { paper = n; wire = 8192 }) .paper) (1023 ∷ 1024 ∷ []) ++ map (λ n. lentAfresh programs (record { paper = 4096; wire = n }) .wire) (2047 ∷ 2048 ∷ [])) (4096 ∷ 1024 ∷ 8192 ∷ 2048 ∷ [])
+    -- a run of network bytes ends behind a note, and before a byte that would find less than the room of code 1
+    ∷ example (runOf (0x41 ∷ 0xff ∷ 0xf0 ∷ 0x42 ∷ []) 4096 8192 ++ runOf (0x41 ∷ 0xff ∷ 0xf1 ∷ 0x42 ∷ 0x43 ∷ []) 1025 2048) (0 ∷ 4 ∷ 3 ∷ 0x41 ∷ [] ++ 0 ∷ 0 ∷ 4 ∷ 0x41 ∷ 0x42 ∷ [])
     ∷ []
 
 -- the claim: the rules give what the examples say

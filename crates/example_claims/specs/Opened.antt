@@ -8,6 +8,7 @@ use Rattle.wire.specs.Frames.{coded, frame}
 use Rattle.negotiation.specs.Carried.{printerSide, clashes, heardBy, askedSide, askingOf}
 use Rattle.negotiation.specs.Table.{heard, asked}
 use Rattle.reader.specs.Reading.{keeping, commandRead, bodyCommandRead, read, byOption}
+use Rattle.reader.specs.NetworkRun.{ranFrom, runFrom}
 use Rattle.subnegotiation.specs.Checks.{optionChecked, checked}
 use Rattle.bodies.specs.MacroBodies.{macroBody}
 use Rattle.bodies.specs.RcteBodies.{rcteBody}
@@ -29,7 +30,7 @@ unfolding oneOf sum flatMap guarded classOf inClasses prints keyPaper keyWire co
 layerRules = tt
 
 unfoldable pub printerRules : Unit {0}
-unfolding layerRules networkCall keyTyped keyCall askCall suggestCall dataRead sideMoved negotiationRead bodyRead byteRead bytesRead networkRead called answersFrom
+unfolding layerRules networkCall keyTyped keyCall askCall suggestCall dataRead sideMoved negotiationRead bodyRead byteRead bytesRead networkRead ranFrom runFrom called answersFrom
 printerRules = tt
 
 unfoldable pub tapeRules : Unit {0}

@@ -2,10 +2,11 @@
 ghost use mathlib.Core.Path.{_≡_};
 ghost use Rattle.lists.specs.Buffers.{lent};
 ghost use Rattle.bulletin.specs.Calls.{networkCall, askCall, suggestCall, orderCall, defineCall, useCall, textCall};
-ghost use Rattle.bulletin.specs.Refinement.{freshCells};
-ghost use Rattle.prambow.specs.Numbers.{keyOfPair};
-ghost use Rattle.prambow.specs.BulletinArrays.{
+ghost use Rattle.bulletin.specs.Refinement.{freshCells, viewBulletin};
+ghost use Rattle.session_arrays.specs.Numbers.{keyOfPair};
+ghost use Rattle.session_arrays.specs.BulletinArrays.{
   lentBulletin,
+  decodedBulletin,
   encodedBulletin,
   RefinesOnBulletinArrays,
   RefinesOnBulletinArraysWire,
@@ -13,14 +14,20 @@ ghost use Rattle.prambow.specs.BulletinArrays.{
   SaysOutput,
   SaysStatus,
 };
-use crate::Outcome;
-use crate::Reported;
-use crate::bulletin_arrays;
-use crate::numbers;
+ghost use Rattle.bulletin.specs.NetworkRun.{networkRun};
+ghost use Rattle.session_arrays.specs.BulletinRuns.{RefinesRunOnBulletinArrays};
 use bulletin::calls;
+use codes::Code;
+use codes::Note;
 use negotiation::End;
 use reader::BODY_ROOM;
 use received_macros::ROOM;
+use session_arrays::Outcome;
+use session_arrays::Reported;
+use session_arrays::RunOutcome;
+use session_arrays::bulletin_arrays;
+use session_arrays::bulletin_runs;
+use session_arrays::numbers;
 
 #[no_mangle]
 pub extern "C" fn prambow_bulletin_fresh_arrays(
@@ -54,6 +61,38 @@ pub extern "C" fn prambow_bulletin_network_byte_arrays(
     let s = bulletin_arrays::decoded(small, counts, body, statuses, marks, cells);
     let a = calls::network_byte(s, b, host, wire);
     bulletin_arrays::kept(a, small, counts, body, statuses, marks, cells)
+}
+
+// Network bytes one after the other, as `bulletin::calls::network_bytes` reads them. Stops before one that would be refused, and
+// behind one that gave a note.
+#[no_mangle]
+pub extern "C" fn prambow_bulletin_network_bytes_arrays(
+    small: &mut [u8; 11],
+    counts: &mut [usize; 1],
+    body: &mut [u8; BODY_ROOM],
+    statuses: &mut [u8; 256],
+    marks: &mut [u16; 256],
+    cells: &mut [u8; ROOM],
+    bytes: &[u8],
+    host: &mut [u8],
+    wire: &mut [u8],
+) -> RunOutcome
+    ensures { λ r. ⌜ RefinesRunOnBulletinArrays (networkRun (viewBulletin (decodedBulletin (lentBulletin small counts body statuses marks cells .before))) (now (bytes .entry))) (lentBulletin small counts body statuses marks cells) (lent host) (lent wire) r ⌝ }
+{
+    if reader::cannot_begin(bytes.len(), host.len(), wire.len()) {
+        return numbers::run_outcome(Code::NoRoom, Note::Clear, 0, 0, 0);
+    }
+    bulletin_runs::read_bytes(
+        small,
+        counts,
+        body,
+        statuses,
+        marks,
+        cells,
+        bytes,
+        host,
+        wire,
+    )
 }
 
 #[no_mangle]

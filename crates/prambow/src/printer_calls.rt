@@ -3,18 +3,24 @@
 ghost use mathlib.Core.Path.{_≡_};
 ghost use Rattle.lists.specs.Buffers.{lent};
 ghost use Rattle.printer.specs.Calls.{networkCall, keyCall, askCall, suggestCall};
-ghost use Rattle.printer.specs.Refinement.{freshCells};
-ghost use Rattle.prambow.specs.Numbers.{keyOfPair};
-ghost use Rattle.prambow.specs.PrinterArrays.{lentPrinter, encodedPrinter, RefinesOnPrinterArrays, ReportsPrinter, CountsWaiting};
-use crate::Outcome;
-use crate::Reported;
-use crate::numbers;
-use crate::printer_arrays;
+ghost use Rattle.printer.specs.Refinement.{freshCells, viewPrinter};
+ghost use Rattle.session_arrays.specs.Numbers.{keyOfPair};
+ghost use Rattle.session_arrays.specs.PrinterArrays.{lentPrinter, decodedPrinter, encodedPrinter, RefinesOnPrinterArrays, ReportsPrinter, CountsWaiting};
+ghost use Rattle.printer.specs.NetworkRun.{networkRun};
+ghost use Rattle.session_arrays.specs.PrinterRuns.{RefinesRunOnPrinterArrays};
+use codes::Code;
+use codes::Note;
 use printer::calls;
 use rcte::GATHER_ROOM;
 use rcte::WAIT_ROOM;
 use reader::BODY_ROOM;
 use received_macros::ROOM;
+use session_arrays::Outcome;
+use session_arrays::Reported;
+use session_arrays::RunOutcome;
+use session_arrays::numbers;
+use session_arrays::printer_arrays;
+use session_arrays::printer_runs;
 
 #[no_mangle]
 pub extern "C" fn prambow_printer_fresh_arrays(
@@ -84,6 +90,42 @@ pub extern "C" fn prambow_printer_network_byte_arrays(
 }
 
 // The key is a pair of numbers; one that stands for no key is refused with code 3.
+// Network bytes one after the other, as `printer::calls::network_bytes` reads them. Stops before one that would be refused, and
+// behind one that gave a note.
+#[no_mangle]
+pub extern "C" fn prambow_printer_network_bytes_arrays(
+    small: &mut [u8; 13],
+    classes: &mut [u16; 2],
+    counts: &mut [usize; 3],
+    body: &mut [u8; BODY_ROOM],
+    marks: &mut [u16; 256],
+    cells: &mut [u8; ROOM],
+    waiting: &mut [u16; WAIT_ROOM],
+    gathered: &mut [u8; GATHER_ROOM],
+    bytes: &[u8],
+    paper: &mut [u8],
+    wire: &mut [u8],
+) -> RunOutcome
+    ensures { λ r. ⌜ RefinesRunOnPrinterArrays (networkRun (viewPrinter (decodedPrinter (lentPrinter small classes counts body marks cells waiting gathered .before))) (now (bytes .entry))) (lentPrinter small classes counts body marks cells waiting gathered) (lent paper) (lent wire) r ⌝ }
+{
+    if reader::cannot_begin(bytes.len(), paper.len(), wire.len()) {
+        return numbers::run_outcome(Code::NoRoom, Note::Clear, 0, 0, 0);
+    }
+    printer_runs::read_bytes(
+        small,
+        classes,
+        counts,
+        body,
+        marks,
+        cells,
+        waiting,
+        gathered,
+        bytes,
+        paper,
+        wire,
+    )
+}
+
 #[no_mangle]
 pub extern "C" fn prambow_printer_press_arrays(
     small: &mut [u8; 13],

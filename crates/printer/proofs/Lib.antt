@@ -9,6 +9,9 @@ pub mod Replying
 pub mod Bodies
 pub mod Choosing
 pub mod PlainBytes
+pub mod InPlace
+pub mod AnsweringInPlace
+pub mod MarkedBytes
 pub mod Texts
 pub mod TextStretch
 pub mod Runs

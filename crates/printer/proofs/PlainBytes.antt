@@ -20,14 +20,14 @@ use Rattle.printer.specs.Stretches.{isSettled, textStretch, isPlain, dat
 use Rattle.printer.specs.Refinement.{viewPrinter}
 use Rattle.printer.proofs.Choosing.{data-byte, plain-read, off-read}
 
-abbrev isSettledIn : PrinterState → Bool
+abbrev pub isSettledIn : PrinterState → Bool
 isSettledIn s = isSettled (s .sides) (s .reader .phase) (s .rcte .held)
 
 -- what is held already is held
 held-still : (s : PrinterState) → s .rcte .held ≡ true → withRcte s (holding (s .rcte)) ≡ s
 held-still s h = ap (λ (x : Bool). withRcte s (record { held = x; orders = s .rcte .orders; waiting = s .rcte .waiting; gathered = s .rcte .gathered })) (sym h)
 
-settled-still : (s : PrinterState) → isSettledIn s ≡ true → afterData s ≡ s
+pub settled-still : (s : PrinterState) → isSettledIn s ≡ true → afterData s ≡ s
 settled-still s h = go (rcteInForce s) (s .rcte .held) refl refl (both-right (isBetween (s .reader .phase)) (s .rcte .held || not (rcteInForce s)) h)
   where
     go : (r x : Bool) → rcteInForce s ≡ r → s .rcte .held ≡ x → (x || not r) ≡ true → afterData s ≡ s

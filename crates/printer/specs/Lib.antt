@@ -9,5 +9,6 @@ pub mod NetworkRun
 pub mod Limits
 pub mod Refinement
 pub mod RefinementOfRuns
+pub mod InPlace
 pub mod EmptyTable
 pub mod Apart

@@ -9,10 +9,11 @@ use received_macros::Texts;
 
 mod body;
 pub mod calls;
+pub mod in_place;
 mod moves;
 mod network;
 mod run;
-mod stretches;
+pub mod stretches;
 
 // The whole state: negotiation, reader, macros, RCTE's control, the two carriage-return values.
 pub struct Printer {

@@ -8,6 +8,7 @@ ghost use Rattle.printer.specs.Refinement.{viewPrinter, RefinesStep, Ref
 use crate::Printer;
 use crate::Step;
 use crate::body;
+use crate::in_place;
 use crate::moves;
 use crate::stretches;
 use codes::Note;
@@ -147,6 +148,29 @@ fn defined_read(s: Printer, b: u8, paper: &mut [u8], wire: &mut [u8]) -> Step
     byte_read(s, b, paper, wire)
 }
 
+// A byte that has a mark; BM is in force and no command is being read. A text that is plain throughout is printed from where it lies.
+fn marked_read(s: Printer, b: u8, paper: &mut [u8], wire: &mut [u8]) -> Step
+    requires { ⌜ RoomFor (entryRead (viewPrinter s) b (entryOf (viewPrinter s .table) b) .paper) (now paper) ⌝ }
+    requires { ⌜ RoomFor (entryRead (viewPrinter s) b (entryOf (viewPrinter s .table) b) .wire) (now wire) ⌝ }
+    ensures { λ r. ⌜ RefinesStep (entryRead (viewPrinter s) b (entryOf (viewPrinter s .table) b)) s (lent paper) (lent wire) r ⌝ }
+{
+    let sides = s.sides;
+    let reading = s.reader;
+    let phase = reading.phase;
+    let held = s.rcte.held;
+    let span = received_macros::text_span(&s.table.marks, b);
+    let printed = in_place::span_read(sides, phase, held, span, &s.table.cells, paper);
+    if printed.handled {
+        return Step {
+            note: Note::Clear,
+            paper: printed.paper,
+            wire: printed.wire,
+            state: s,
+        };
+    }
+    defined_read(s, b, paper, wire)
+}
+
 // A defined byte stands for its text if BM is in force and no command is being read.
 pub fn network_read(s: Printer, b: u8, paper: &mut [u8], wire: &mut [u8]) -> Step
     requires { ⌜ RoomFor (networkRead (viewPrinter s) b .paper) (now paper) ⌝ }
@@ -165,5 +189,5 @@ pub fn network_read(s: Printer, b: u8, paper: &mut [u8], wire: &mut [u8]) -> Ste
     if !reader::is_between(phase) {
         return byte_read(s, b, paper, wire);
     }
-    defined_read(s, b, paper, wire)
+    marked_read(s, b, paper, wire)
 }

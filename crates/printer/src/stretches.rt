@@ -6,7 +6,7 @@ use negotiation::Sides;
 use reader::Phase;
 
 // The reader is between commands, and data has nothing to hold: without RCTE, or under a hold.
-fn is_settled(sides: Sides, phase: Phase, held: bool) -> bool
+pub fn is_settled(sides: Sides, phase: Phase, held: bool) -> bool
     ensures { λ r. ⌜ r ≡ isSettled sides phase held ⌝ }
 {
     if !reader::is_between(phase) {

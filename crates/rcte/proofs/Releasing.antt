@@ -4,22 +4,25 @@ use mathlib.Core.Bool.{Bool, true, false, cond}
 use mathlib.Core.List.{List, [], _∷_, _++_, append-nil, map}
 use Prim.Native.Nat.{ℕ, _+_, _-_, _≤_, _<_, min}
 use native.Mathlib.Omega.{arith}
-use lib.ListN.{length, take, drop, drop-of-length-le}
+use lib.ListN.{length, take, drop, set, length-set, drop-of-length-le}
 use lib.Seq.{drop-length}
 use Rattle.lists.specs.Buffers.{Lent, lentAs, untouched, WroteAtStart, WroteBothAtStart, RoomFor}
 use Rattle.lists.proofs.Parts.{restOf, withRest}
 use Rattle.lists.proofs.Filling.{Filling, nothing-filled, all-filled, more-filled, room-next, room-done, still-long}
+use Rattle.lists.proofs.Appended.{appended, clean-appended}
 use Rattle.keys.specs.declared.Key.{Key}
 use Rattle.keys.specs.Refinement.{keyOfNumber}
 use Rattle.rcte.specs.declared.Rcte.{Rcte}
+use Rattle.rcte.specs.declared.RcteStep.{RcteStep}
 use Rattle.rcte.specs.declared.Orders.{Orders}
 use Rattle.rcte.specs.declared.Gathered.{Gathered}
 use Rattle.rcte.specs.declared.Taken.{Taken}
 use Rattle.rcte.specs.declared.Stop.{Stop}
-use Rattle.rcte.specs.declared.Stop.the-variants.{All, At}
 use Rattle.rcte.specs.Taking.{OrdersState, KeyEffect, takenUp}
 use Rattle.rcte.specs.Control.{RcteEffect, released, takenFirst, stoppedAt}
-use Rattle.rcte.specs.Refinement.{ordersIn, waitingIn, viewRcte, orderCells, viewOrders, gatheredCells, bytesIn, CleanGathered, RefinesTaken, releasing}
+use Rattle.rcte.specs.Refinement.{waitingIn, viewRcte, orderCells, viewOrders, gatheredCells, bytesIn, CleanGathered, Gathers, RefinesTaken, plainPaper, onlyGathered, releasing, leftAt, takenBefore, holdsAfter, RefinesStep, Stopped}
+use Rattle.rcte.proofs.Cells.{gathered-long}
+use Rattle.rcte.proofs.PlainKeys.{plain-taken, has-room, plain-key, is-plain}
 
 -- a key, and the keys behind it unless it breaks
 one-key : (o : OrdersState) (g : List ℕ) (k : Key) (ks : List Key) {b : Bool} → takenUp o g k .broke ≡ b
@@ -39,14 +42,17 @@ pub record ReleaseLoop (o : OrdersState) (ks : List Key) (g₀ g : Gathered) (pa
   pub onWire : Filling (released o (bytesIn g₀) ks .wire) (released o (bytesIn g) (drop i ks) .wire) wire w
   pub rcte : released o (bytesIn g) (drop i ks) .rcte ≡ released o (bytesIn g₀) ks .rcte
   pub clean : CleanGathered g₀ → CleanGathered g
+  pub long : length (g .cells) ≡ 512
 
-pub begun : (o : OrdersState) (ks : List Key) (g : Gathered) (paper wire : List ℕ) → ReleaseLoop o ks g g (untouched paper) (untouched wire) 0 0 0
-begun o ks g paper wire = record {
+pub begun : (o : OrdersState) (ks : List Key) (g : Gathered) (paper wire : List ℕ) → length (g .cells) ≡ 512
+    → ReleaseLoop o ks g g (untouched paper) (untouched wire) 0 0 0
+begun o ks g paper wire l = record {
   within = omega arith;
   onPaper = nothing-filled (released o (bytesIn g) ks .paper) paper;
   onWire = nothing-filled (released o (bytesIn g) ks .wire) wire;
   rcte = refl;
   clean = λ h. h;
+  long = l;
 }
 
 -- the loop was left with so many keys taken up
@@ -55,21 +61,19 @@ pub record Gone (o : OrdersState) (ks : List Key) (g₀ g : Gathered) (paper wir
   pub rcte : released o (bytesIn g₀) ks .rcte ≡ record { held = held; orders = o; waiting = drop at ks; gathered = bytesIn g }
   pub clean : CleanGathered g₀ → CleanGathered g
 
--- how many keys were taken up, and whether the last of them broke
-abbrev pub takenBefore : Stop → List Key → ℕ
-takenBefore All ks = length ks
-takenBefore (At i) ks = i
-
-abbrev pub holdsAfter : Stop → Bool
-holdsAfter All = false
-holdsAfter (At i) = true
-
--- said of the state's own orders, keys and gathered bytes
-pub settled : (e : Rcte) (o : Orders) (g₀ : Gathered) (n : ℕ) → o ≡ orderCells e → g₀ ≡ gatheredCells e → n ≡ min (e .count) 256
-    → (g : Gathered) (paper wire : Lent) (p w : ℕ) (stop : Stop)
+-- .. and the step that the code makes of that is the rule's
+pub ended : (e : Rcte) {o : Orders} {g₀ g : Gathered} {n : ℕ} {paper wire : Lent} {p w : ℕ} (stop : Stop) {r : RcteStep}
+    → o ≡ orderCells e → g₀ ≡ gatheredCells e → n ≡ min (e .count) 256
     → Gone (viewOrders o) (map keyOfNumber (take n (e .waiting))) g₀ g paper wire p w (takenBefore stop (map keyOfNumber (take n (e .waiting)))) (holdsAfter stop)
-    → Gone (ordersIn e) (waitingIn e) (gatheredCells e) g paper wire p w (takenBefore stop (waitingIn e)) (holdsAfter stop)
-settled e o g₀ n eo eg en g paper wire p w stop so = rw (eo, eg, en) at so
+    → Stopped (leftAt (viewRcte e) (bytesIn g) (takenBefore stop (waitingIn e)) (holdsAfter stop)) g e p w r
+    → RefinesStep (releasing (viewRcte e)) e paper wire r
+ended e stop eo eg en so s =
+    let own = rw (eo, eg, en) at so in
+    record {
+      wrote = rw (s .onPaper, s .onWire) (own .wrote);
+      rcte = s .rcte .rcte ∙ sym (own .rcte);
+      clean = λ h. s .rcte .clean (own .clean (h .gathered)) (h .numbers);
+    }
 
 -- what the keys behind a key give to one of the buffers
 abbrev rest : (RcteEffect → List ℕ) → OrdersState → List ℕ → Key → List Key → List ℕ
@@ -114,6 +118,21 @@ module _ {o : OrdersState} {ks : List Key} {g₀ g : Gathered} {paper wire : Len
     pub wire-room : RoomFor (takenUp o (bytesIn g) k .wire) (restOf wire w)
     wire-room = side-room (λ t. t .wire) (λ e. e .wire) (λ o k ks t. refl) (λ o k t e. refl) o ks (bytesIn g₀) (bytesIn g) i k next (so .onWire) roomW
 
+    -- a key that does not break, whichever way the code took it up
+    went-on : {g′ : Gathered} {paper′ wire′ : Lent} {p′ w′ : ℕ} → takenUp o (bytesIn g) k .broke ≡ false
+        → Gathers (takenUp o (bytesIn g) k .gathered) g g′ → length (g′ .cells) ≡ 512
+        → Filling (released o (bytesIn g₀) ks .paper) (rest (λ e. e .paper) o (bytesIn g) k (drop (i + 1) ks)) paper′ p′
+        → Filling (released o (bytesIn g₀) ks .wire) (rest (λ e. e .wire) o (bytesIn g) k (drop (i + 1) ks)) wire′ w′
+        → ReleaseLoop o ks g₀ g′ paper′ wire′ (i + 1) p′ w′
+    went-on b m l onPaper onWire = record {
+      within = omega arith;
+      onPaper = rw (m .bytes) (rw b at onPaper);
+      onWire = rw (m .bytes) (rw b at onWire);
+      rcte = rw (m .bytes) (rw (next, one-key o (bytesIn g) k (drop (i + 1) ks) b) at (so .rcte));
+      clean = λ h. m .clean (so .clean h);
+      long = l;
+    }
+
     module _ (lastP lastW : List ℕ) (r : Taken)
         (m : RefinesTaken (takenUp o (bytesIn g) k) g (lentAs (restOf paper p) lastP) (lentAs (restOf wire w) lastW) r) where
       onP : Filling (released o (bytesIn g₀) ks .paper) (rest (λ e. e .paper) o (bytesIn g) k (drop (i + 1) ks)) (withRest paper p lastP) (p + r .paper)
@@ -129,19 +148,9 @@ module _ {o : OrdersState} {ks : List Key} {g₀ g : Gathered} {paper wire : Len
       pub wire-sum : w + r .wire ≤ length (wire .before)
       wire-sum = room-done onW roomW
 
-      -- a key that does not break
-      pub turn : r .broke ≡ false
+      pub turn : r .broke ≡ false → length (r .gathered .cells) ≡ 512
           → ReleaseLoop o ks g₀ (r .gathered) (withRest paper p lastP) (withRest wire w lastW) (i + 1) (p + r .paper) (w + r .wire)
-      turn off =
-          let b : takenUp o (bytesIn g) k .broke ≡ false = sym (m .broke) ∙ off in
-          let e = m .gathered .bytes in
-          record {
-            within = omega arith;
-            onPaper = rw e (rw b at onP);
-            onWire = rw e (rw b at onW);
-            rcte = rw e (rw (next, one-key o (bytesIn g) k (drop (i + 1) ks) b) at (so .rcte));
-            clean = λ h. m .gathered .clean (so .clean h);
-          }
+      turn off l = went-on (sym (m .broke) ∙ off) (m .gathered) l onP onW
 
       -- a key that breaks
       pub broken : r .broke ≡ true
@@ -153,6 +162,38 @@ module _ {o : OrdersState} {ks : List Key} {g₀ g : Gathered} {paper wire : Len
             rcte = rw (m .gathered .bytes) (sym (rw (next, one-key o (bytesIn g) k (drop (i + 1) ks) b) at (so .rcte)));
             clean = λ h. m .gathered .clean (so .clean h);
           }
+
+  -- the number of a key that is only gathered
+  module _ (n : ℕ) (only : onlyGathered o n (g .filled) ≡ true) (inside : i < length ks) (next : drop i ks ≡ keyOfNumber n ∷ drop (i + 1) ks) where
+    takes : takenUp o (bytesIn g) (keyOfNumber n) ≡ record { paper = plainPaper o n; wire = []; gathered = bytesIn g ++ n ∷ []; broke = false }
+    takes =
+        let room : length (bytesIn g) < 512 = omega (arith, gathered-long (g .cells) (g .filled) (so .long), has-room o n (g .filled) only) in
+        rw (plain-key o n (g .filled) only) (plain-taken o n (is-plain o n (g .filled) only) (bytesIn g) room)
+
+    pub plain-room : RoomFor (plainPaper o n) (restOf paper p)
+    plain-room = rw (ap (λ (t : KeyEffect). t .paper) takes) at (paper-room (keyOfNumber n) inside next)
+
+    module _ (last : List ℕ) (m : ℕ) (wrote : WroteAtStart (plainPaper o n) (lentAs (restOf paper p) last) m) where
+      onPlain : Filling (released o (bytesIn g₀) ks .paper) (rest (λ e. e .paper) o (bytesIn g) (keyOfNumber n) (drop (i + 1) ks)) (withRest paper p last) (p + m)
+      onPlain =
+          side-more (λ t. t .paper) (λ e. e .paper) (λ o k ks t. refl) (λ o k t e. refl) o ks (bytesIn g₀) (bytesIn g) i (keyOfNumber n) next (so .onPaper) roomP last m
+          (rw (ap (λ (t : KeyEffect). t .paper) takes) wrote)
+
+      pub plain-sum : p + m ≤ length (paper .before)
+      plain-sum = room-done onPlain roomP
+
+      pub plain-turn : ReleaseLoop o ks g₀ (record { cells = set (g .cells) (g .filled) n; filled = g .filled + 1 }) (withRest paper p last) wire (i + 1) (p + m) w
+      plain-turn =
+          let free : g .filled < length (g .cells) = omega (arith, so .long, has-room o n (g .filled) only) in
+          let within : min (g .filled) 512 ≡ g .filled = omega (arith, so .long) in
+          went-on (keyOfNumber n) inside next (ap (λ (t : KeyEffect). t .broke) takes)
+          (record {
+            bytes = rw (ap (λ (t : KeyEffect). t .gathered) takes, within) (appended (g .cells) (g .filled) n free 512 (so .long));
+            clean = clean-appended (g .cells) (g .filled) n free;
+          })
+          (simp length-set (so .long))
+          onPlain
+          (rw (ap (λ (t : KeyEffect). t .wire) takes) at (first-is (λ t. t .wire) (λ e. e .wire) (λ o k ks t. refl) (λ o k t e. refl) o ks (bytesIn g₀) (bytesIn g) i (keyOfNumber n) next (so .onWire) roomW))
 
   -- no key is left
   pub all-gone : length ks ≤ i → Gone o ks g₀ g paper wire p w (length ks) false

@@ -1,23 +1,27 @@
 -- The code's state seen as the rules' state, and what a call of the code owes to a rule.
 use mathlib.Core.Path.{_≡_}
-use mathlib.Core.Bool.{true, false, Bool, cond}
-use mathlib.Core.List.{List, [], map}
+use mathlib.Core.Bool.{true, false, Bool, _&&_, not, cond}
+use mathlib.Core.List.{List, [], _∷_, map}
 use Prim.Native.Nat.{ℕ, min}
 use lib.ListN.{length, take, getD, replicate, drop}
-use lib.Dec.{leb}
+use lib.Dec.{leb, ltb, eqb}
 use Rattle.lists.specs.Buffers.{Lent, WroteBothAtStart, Clean, WroteAtStart}
+use Rattle.codes.specs.Telnet.{CR}
 use Rattle.keys.specs.declared.Key.{Key}
+use Rattle.keys.specs.declared.Key.the-variants.{Char}
 use Rattle.keys.specs.Refinement.{keyNumber, keyOfNumber}
-use Rattle.rcte.specs.Taking.{OrdersState, gatherRoom, KeyEffect, isSkipped, overflows}
+use Rattle.rcte.specs.Taking.{OrdersState, gatherRoom, KeyEffect, isSkipped, overflows, flushes}
 use Rattle.rcte.specs.Control.{RcteState, RcteEffect, waitRoom, isFull, queued, pressed, released, ordersNow}
 use Rattle.rcte.specs.declared.Rcte.{Rcte}
 use Rattle.rcte.specs.declared.RcteStep.{RcteStep}
-use Rattle.keys.specs.Keys.{keyPaper}
+use Rattle.keys.specs.Keys.{keyPaper, prints}
 use Rattle.bodies.specs.declared.RcteCommand.{RcteCommand}
 use Rattle.rcte.specs.declared.Orders.{Orders}
 use Rattle.rcte.specs.declared.Gathered.{Gathered}
 use Rattle.rcte.specs.declared.Sent.{Sent}
 use Rattle.rcte.specs.declared.Taken.{Taken}
+use Rattle.rcte.specs.declared.Stop.{Stop}
+use Rattle.rcte.specs.declared.Stop.the-variants.{All, At}
 
 -- an array's cells in use: a count past the array counts as its length
 abbrev pub keysIn : List ℕ → ℕ → List Key
@@ -99,6 +103,18 @@ takenPaper o k = cond (isSkipped o k) [] (keyPaper k)
 abbrev pub staysFirst : List ℕ → Key → List ℕ
 staysFirst gathered k = cond (overflows gathered k) [] gathered
 
+-- a character that is its own byte on the paper and on the wire, and neither breaks nor is sent
+unfoldable pub isPlain : OrdersState → ℕ → Bool
+isPlain o b = not (flushes o (Char b)) && (prints b && not (eqb b CR))
+
+-- its paper
+abbrev pub plainPaper : OrdersState → ℕ → List ℕ
+plainPaper o b = cond (o .action .skiptext) [] (b ∷ [])
+
+-- a waiting key that only adds its byte to those gathered
+unfoldable pub onlyGathered : OrdersState → ℕ → ℕ → Bool
+onlyGathered o number filled = (ltb number 256 && ltb filled gatherRoom) && isPlain o number
+
 -- those bytes are gathered after it
 pub record Gathers (those : List ℕ) (before after : Gathered) : Type 0 where
   pub bytes : bytesIn after ≡ those
@@ -128,3 +144,18 @@ leftAt e gathered at held = record { held = held; orders = e .orders; waiting = 
 pub record Left (to : RcteState) (g : Gathered) (before after : Rcte) : Type 0 where
   pub rcte : viewRcte after ≡ to
   pub clean : CleanGathered g → Numbered (before .waiting) → CleanRcte after
+
+-- how many keys were taken up as that stopped, and whether the last of them broke
+abbrev pub takenBefore : Stop → List Key → ℕ
+takenBefore All ks = length ks
+takenBefore (At i) ks = i
+
+abbrev pub holdsAfter : Stop → Bool
+holdsAfter All = false
+holdsAfter (At i) = true
+
+-- a step that left that state, and wrote so many bytes
+pub record Stopped (to : RcteState) (g : Gathered) (before : Rcte) (paper wire : ℕ) (r : RcteStep) : Type 0 where
+  pub rcte : Left to g before (r .rcte)
+  pub onPaper : r .paper ≡ paper
+  pub onWire : r .wire ≡ wire

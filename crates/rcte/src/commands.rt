@@ -2,11 +2,12 @@
 ghost use mathlib.Core.Path.{_≡_};
 ghost use Rattle.rcte.specs.Taking.{isBreak, isSend, isSkipped, flushes};
 ghost use Rattle.rcte.specs.Control as control;
-ghost use Rattle.rcte.specs.Refinement.{viewRcte, RefinesState, viewOrders, ordering};
+ghost use Rattle.rcte.specs.Refinement.{viewRcte, RefinesState, viewOrders, ordering, isPlain};
 use crate::Orders;
 use crate::Rcte;
 use bodies::Classes;
 use bodies::RcteCommand;
+use codes::CR;
 use keys::Key;
 
 fn classes_now(c: Classes, old: u16) -> u16
@@ -80,4 +81,23 @@ pub fn flushes(o: Orders, k: Key) -> bool
         return true;
     }
     is_send(o, k)
+}
+
+// A character that is its own byte on the paper and on the wire, and neither breaks nor is sent. IAC is left out with all
+// that do not print.
+pub fn is_plain(o: Orders, b: u8) -> bool
+    ensures { λ r. ⌜ r ≡ isPlain (viewOrders o) b ⌝ }
+{
+    let class = keys::class_of(b);
+    if keys::in_classes(o.breaks, class) {
+        return false;
+    }
+    if keys::in_classes(o.sends, class) {
+        return false;
+    }
+    match class {
+        0 => false,
+        5 => false,
+        _ => b != CR,
+    }
 }

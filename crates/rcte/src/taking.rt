@@ -6,7 +6,7 @@ ghost use lib.ListN.{length};
 ghost use Rattle.lists.specs.Buffers.{lent, WroteAtStart, WroteBothAtStart, RoomFor};
 ghost use Rattle.keys.specs.Keys.{keyWire};
 ghost use Rattle.rcte.specs.Taking.{takenUp, sentPaper, sentFirst};
-ghost use Rattle.rcte.specs.Refinement.{viewOrders, bytesIn, takenPaper, staysFirst, Gathers, RefinesSent, RefinesTaken};
+ghost use Rattle.rcte.specs.Refinement.{viewOrders, bytesIn, takenPaper, staysFirst, plainPaper, onlyGathered, Gathers, RefinesSent, RefinesTaken};
 use crate::GATHER_ROOM;
 use crate::Gathered;
 use crate::Orders;
@@ -132,6 +132,32 @@ pub fn take_up(o: Orders, g: Gathered, k: Key, paper: &mut [u8], wire: &mut [u8]
         broke,
         gathered,
     }
+}
+
+// A waiting key that only adds its byte to those gathered: a plain character, and there is room.
+pub fn only_gathered(o: Orders, number: u16, filled: usize) -> bool
+    ensures { λ r. ⌜ r ≡ onlyGathered (viewOrders o) number filled ⌝ }
+{
+    if number > 255 {
+        return false;
+    }
+    if GATHER_ROOM <= filled {
+        return false;
+    }
+    commands::is_plain(o, number as u8)
+}
+
+// A plain character's paper.
+pub fn print_plain(o: Orders, b: u8, paper: &mut [u8]) -> usize
+    requires { ⌜ RoomFor (plainPaper (viewOrders o) b) (now paper) ⌝ }
+    ensures { λ r. ⌜ WroteAtStart (plainPaper (viewOrders o) b) (lent paper) r ⌝ }
+{
+    let action = o.action;
+    if action.skiptext {
+        return 0;
+    }
+    paper[0] = b;
+    1
 }
 
 // A key sent at once, without RCTE or as it ends: printed unless the other end echoes.

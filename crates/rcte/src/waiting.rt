@@ -7,7 +7,7 @@ ghost use Rattle.lists.specs.Buffers.{lent, WroteBothAtStart, RoomFor};
 ghost use Rattle.keys.specs.Keys.{keyWire};
 ghost use Rattle.rcte.specs.Control as control;
 ghost use Rattle.rcte.specs.Control.{sentPapers};
-ghost use Rattle.rcte.specs.Refinement.{waitingIn, viewRcte, queuedIfRoom, RefinesState, RefinesStep, bytesIn, releasing, leftAt, Left};
+ghost use Rattle.rcte.specs.Refinement.{waitingIn, viewRcte, queuedIfRoom, RefinesState, RefinesStep, bytesIn, releasing, leftAt, Left, takenBefore, holdsAfter, Stopped};
 use crate::Gathered;
 use crate::Rcte;
 use crate::RcteStep;
@@ -79,7 +79,19 @@ pub fn left(e: Rcte, g: Gathered, at: usize, held: bool) -> Rcte
     }
 }
 
-// Takes up waiting keys one after the other, the first break being the last; if none breaks, the hold is over.
+// The step, once the taking up has stopped.
+fn stopped(e: Rcte, g: Gathered, stop: Stop, paper: usize, wire: usize) -> RcteStep
+    ensures { λ r. ⌜ Stopped (leftAt (viewRcte e) (bytesIn g) (takenBefore stop (waitingIn e)) (holdsAfter stop)) g e paper wire r ⌝ }
+{
+    let rcte = match stop {
+        Stop::All => left(e, g, e.count, false),
+        Stop::At(at) => left(e, g, at, true),
+    };
+    RcteStep { paper, wire, rcte }
+}
+
+// Takes up waiting keys one after the other, the first break being the last; if none breaks, the hold is over. Most keys
+// are only gathered, and their bytes are stored in place, since `take_up` copies all gathered bytes.
 pub fn release(e: Rcte, paper: &mut [u8], wire: &mut [u8]) -> RcteStep
     requires { ⌜ RoomFor (releasing (viewRcte e) .paper) (now paper) ⌝ }
     requires { ⌜ RoomFor (releasing (viewRcte e) .wire) (now wire) ⌝ }
@@ -96,26 +108,28 @@ pub fn release(e: Rcte, paper: &mut [u8], wire: &mut [u8]) -> RcteStep
         if i >= count {
             break Stop::All;
         }
-        let k = keys::key_of_number(cells[i]);
+        let number = cells[i];
+        i += 1;
+        let at = g.filled;
+        if taking::only_gathered(o, number, at) {
+            let b = number as u8;
+            let n = taking::print_plain(o, b, &mut paper[p..]);
+            p += n;
+            g.cells[at] = b;
+            g.filled = at + 1;
+            continue;
+        }
+        let k = keys::key_of_number(number);
         let t = taking::take_up(o, g, k, &mut paper[p..], &mut wire[w..]);
         let kept = t.gathered;
         g = kept;
         p += t.paper;
         w += t.wire;
-        i += 1;
         if t.broke {
             break Stop::At(i);
         }
     };
-    let rcte = match stop {
-        Stop::All => left(e, g, count, false),
-        Stop::At(at) => left(e, g, at, true),
-    };
-    RcteStep {
-        paper: p,
-        wire: w,
-        rcte,
-    }
+    stopped(e, g, stop, p, w)
 }
 
 // All waiting keys are sent at once.

@@ -4,3 +4,4 @@ pub mod IdleReader
 pub mod NetworkRun
 pub mod RunLoop
 pub mod DataBytes
+pub mod PhaseAlone

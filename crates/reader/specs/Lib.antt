@@ -1,3 +1,4 @@
 pub mod Reading
 pub mod Refinement
 pub mod NetworkRun
+pub mod Phases

@@ -3,23 +3,18 @@ ghost use mathlib.Core.Path.{_≡_};
 ghost use Prim.Native.Nat.{min};
 ghost use Rattle.reader.specs.Reading.{inPhase, gives, keeping, marring, commandRead, bodyCommandRead, readIn, read, isBetween, isData};
 ghost use Rattle.reader.specs.Refinement.{viewReader, idleCells, RefinesRead};
-use codes::DO;
-use codes::DONT;
-use codes::GA;
 use codes::IAC;
-use codes::NOP;
-use codes::SB;
 use codes::SE;
 use codes::Verb;
-use codes::WILL;
-use codes::WONT;
 
 mod fronts;
 mod network_runs;
+mod phases;
 
 pub use fronts::text_front;
 pub use network_runs::cannot_begin;
 pub use network_runs::reach;
+pub use phases::phase_read;
 
 // The first bytes of a body that are kept, its option among them.
 pub const BODY_ROOM: usize = 260;
@@ -53,6 +48,13 @@ pub struct Reader {
 pub struct Read {
     pub item: Item,
     pub reader: Reader,
+}
+
+// What a byte completes and the phase after it, where the phase alone moves.
+pub struct PhaseRead {
+    pub alone: bool,
+    pub item: Item,
+    pub phase: Phase,
 }
 
 pub fn idle() -> Reader
@@ -156,16 +158,13 @@ fn text_byte(r: Reader, b: u8) -> Read
 fn command_byte(r: Reader, b: u8) -> Read
     ensures { λ x. ⌜ RefinesRead (commandRead (viewReader r) b) r x ⌝ }
 {
-    match b {
-        IAC => stepped(r, Phase::Between, Item::Data(IAC)),
-        SB => stepped(idle(), Phase::InBody, Item::Nothing),
-        WILL => stepped(r, Phase::AfterVerb(Verb::Will), Item::Nothing),
-        WONT => stepped(r, Phase::AfterVerb(Verb::Wont), Item::Nothing),
-        DO => stepped(r, Phase::AfterVerb(Verb::Do), Item::Nothing),
-        DONT => stepped(r, Phase::AfterVerb(Verb::Dont), Item::Nothing),
-        NOP..=GA => stepped(r, Phase::Between, Item::Nothing),
-        _ => stepped(r, Phase::Between, Item::StrayCommand),
+    let moved = phases::command_phase(b);
+    if !moved.alone {
+        return stepped(idle(), Phase::InBody, Item::Nothing);
     }
+    let phase = moved.phase;
+    let item = moved.item;
+    stepped(r, phase, item)
 }
 
 fn body_byte(r: Reader, b: u8) -> Read

@@ -4,7 +4,7 @@ use mathlib.Core.Bool.{Bool, true, false, not, false≢true}
 use mathlib.Core.List.{List, [], _++_}
 use Prim.Native.Nat.{ℕ, _+_, _-_, _≤_, _<_}
 use native.Mathlib.Omega.{arith}
-use borrow.Author.Tests.{lt-ltb, le-ltb, le-leb, lt-leb, ltb-true, ltb-false, ne-eqb, eqb-false}
+use borrow.Author.Tests.{lt-ltb, le-ltb, le-leb, lt-leb, ltb-true, ltb-false, eq-eqb, ne-eqb, eqb-false}
 use lib.Dec.{ltb, leb, eqb}
 use lib.ListN.{length, getD, take, drop, replicate, length-take, length-drop}
 use lib.Seq.{take-all, take-at}
@@ -14,7 +14,7 @@ use Rattle.lists.proofs.Lengths.{every-replicate}
 use Rattle.lists.proofs.Uniform.{getD-uniform}
 use Rattle.received_macros.specs.declared.Texts.{Texts}
 use Rattle.received_macros.specs.Texts.{Entry, plain, text, noMacros, entryOf, textRoom}
-use Rattle.received_macros.specs.Refinement.{lengthOf, lengths, entryAt, entries, viewTexts, emptyCells, CleanTexts, Settled, UnmarkedPlain, isUnmarked, isText, textOf, CopyOf}
+use Rattle.received_macros.specs.Refinement.{lengthOf, lengths, entryAt, entries, viewTexts, emptyCells, CleanTexts, Settled, UnmarkedPlain, isUnmarked, isText, textOf, CopyOf, noSpan, SpanOf}
 use Rattle.received_macros.proofs.Laws.{entries-none, entry-at}
 use Rattle.received_macros.proofs.Marks.{text-at}
 
@@ -108,4 +108,30 @@ module _ (t r : Texts) (x : ℕ) (settled : Settled t r) (cells-long : length (r
         count = rw (same, long);
         bytes = rw (same, filled) (take-at part (replicate (255 - length part) 0) len long);
         clean = rw filled (clean-append part len (255 - length part) long);
+      }
+
+-- where the text of a byte lies, by its mark and the texts before it
+module _ (marks : List ℕ) (x : ℕ) where
+  abbrev tableOf : List ℕ → Texts
+  tableOf cells = record { marks = marks; cells = cells }
+
+  span-none : ((cells : List ℕ) → entryOf (viewTexts (tableOf cells)) x ≡ plain) → SpanOf marks x noSpan
+  span-none none = record { order = omega arith; room = omega arith; entry = none; none = λ _. refl }
+
+  pub span-unmarked : getD marks x 0 ≡ 0 → SpanOf marks x noSpan
+  span-unmarked e = span-none (λ cells. unmarked (tableOf cells) x (eq-eqb (getD marks x 0) 0 e))
+
+  pub span-over : textRoom < lengths marks → SpanOf marks x noSpan
+  span-over h = span-none (λ cells. no-entry (tableOf cells) x h)
+
+  pub span-within : (getD marks x 0 ≡ 0 → ⊥) → lengths marks ≤ textRoom → x < length marks
+      → (start len : ℕ) → start ≡ lengths (take x marks) → len ≡ lengthOf (getD marks x 0)
+      → SpanOf marks x (record { defined = true; start = start; end = start + len })
+  span-within e h byte start len start-is len-is =
+      let cut : start + len - start ≡ len = omega arith in
+      record {
+        order = omega arith;
+        room = omega (arith, sum-around lengthOf marks x 0 byte);
+        entry = λ cells. rw (the-entry (tableOf cells) x h, ne-eqb (getD marks x 0) 0 e, cut, start-is, len-is);
+        none = λ f. absurd (false≢true (sym f));
       }

@@ -12,6 +12,7 @@ use Rattle.received_macros.specs.declared.Verdict.{Verdict}
 use Rattle.received_macros.specs.declared.Verdict.the-variants.{Accepted, Refused}
 use Rattle.received_macros.specs.declared.Texts.{Texts}
 use Rattle.received_macros.specs.declared.Text.{Text}
+use Rattle.received_macros.specs.declared.Span.{Span}
 use Rattle.received_macros.specs.declared.Defined.{Defined}
 use Rattle.received_macros.specs.Texts.{Entry, plain, text, Table, noMacros, entryOf, textRoom, isItself, afterDefine}
 
@@ -83,6 +84,21 @@ pub record CopyOf (e : Entry) (r : Text) : Type 0 where
   pub count : r .len ≡ length (textOf e)
   pub bytes : take (r .len) (r .bytes) ≡ textOf e
   pub clean : Clean (r .bytes) (r .len)
+
+-- no part of the cells
+abbrev pub noSpan : Span
+noSpan = record { defined = false; start = 0; end = 0 }
+
+-- the entry whose text is a part of the cells
+abbrev pub entryIn : Span → List ℕ → Entry
+entryIn r cells = cond (r .defined) (text (take (r .end - r .start) (drop (r .start) cells))) plain
+
+-- where the text of a byte with these marks lies, whatever the cells have there
+pub record SpanOf (marks : List ℕ) (x : ℕ) (r : Span) : Type 0 where
+  pub order : r .start ≤ r .end
+  pub room : r .end ≤ textRoom
+  pub entry : (cells : List ℕ) → entryOf (viewTexts (record { marks = marks; cells = cells })) x ≡ entryIn r cells
+  pub none : r .defined ≡ false → r ≡ noSpan
 
 -- the mark that a text gives to X
 unfoldable pub markFor : ℕ → List ℕ → ℕ

@@ -18,6 +18,8 @@ ghost use Rattle.received_macros.specs.Refinement.{
   Settled,
   Changed,
   CopyOf,
+  noSpan,
+  SpanOf,
   RefinesDefined,
 };
 use codes::ACCEPT;
@@ -67,6 +69,13 @@ pub struct Text {
     pub bytes: [u8; LONGEST],
 }
 
+// Where a byte's text lies in the cells.
+pub struct Span {
+    pub defined: bool,
+    pub start: usize,
+    pub end: usize,
+}
+
 pub struct Defined {
     pub verdict: Verdict,
     pub table: Texts,
@@ -95,14 +104,15 @@ fn length_of(mark: u16) -> usize
 }
 
 // Where the text of byte x begins; of 256, where the texts end.
-fn start_of(marks: [u16; BYTES], x: usize) -> usize
+fn start_of(marks: &[u16; BYTES], x: usize) -> usize
     requires { ⌜ x ≤ 256 ⌝ }
-    ensures { λ r. ⌜ r ≡ lengths (take x marks) ⌝ }
+    ensures { λ r. ⌜ r ≡ lengths (take x (now (marks .entry))) ⌝ }
 {
+    let every = &marks[..];
     let mut start: usize = 0;
     let mut i: usize = 0;
     while i < x {
-        let n = length_of(marks[i]);
+        let n = length_of(every[i]);
         start += n;
         i += 1;
     }
@@ -113,8 +123,7 @@ fn start_of(marks: [u16; BYTES], x: usize) -> usize
 fn settled(t: Texts) -> Texts
     ensures { λ r. ⌜ Settled t r ⌝ }
 {
-    let marks = t.marks;
-    let end = start_of(marks, BYTES);
+    let end = start_of(&t.marks, BYTES);
     if end > ROOM {
         return empty();
     }
@@ -125,8 +134,7 @@ fn settled(t: Texts) -> Texts
 pub fn total_of(t: Texts) -> usize
     ensures { λ r. ⌜ r ≡ total (viewTexts t) ⌝ }
 {
-    let marks = t.marks;
-    let end = start_of(marks, BYTES);
+    let end = start_of(&t.marks, BYTES);
     if end > ROOM {
         return 0;
     }
@@ -144,12 +152,11 @@ pub fn is_unmarked(marks: &[u16; BYTES], x: u8) -> bool
 pub fn is_defined(t: Texts, x: u8) -> bool
     ensures { λ r. ⌜ r ≡ isText (entryOf (viewTexts t) x) ⌝ }
 {
-    let marks = t.marks;
     let at = x as usize;
-    if marks[at] == 0 {
+    if t.marks[at] == 0 {
         return false;
     }
-    let end = start_of(marks, BYTES);
+    let end = start_of(&t.marks, BYTES);
     end <= ROOM
 }
 
@@ -171,14 +178,45 @@ pub fn text_of(t: Texts, x: u8) -> Text
     ensures { λ r. ⌜ CopyOf (entryOf (viewTexts t) x) r ⌝ }
 {
     let s = settled(t);
-    let marks = s.marks;
     let cells = s.cells;
     let at = x as usize;
-    let len = length_of(marks[at]);
-    let start = start_of(marks, at);
+    let len = length_of(s.marks[at]);
+    let start = start_of(&s.marks, at);
     let end = start + len;
     let bytes = copied(&cells[start..end]);
     Text { len, bytes }
+}
+
+fn no_span() -> Span
+    ensures { λ r. ⌜ r ≡ noSpan ⌝ }
+{
+    Span {
+        defined: false,
+        start: 0,
+        end: 0,
+    }
+}
+
+// Where the text lies, from the lent marks alone and without a copy of it.
+pub fn text_span(marks: &[u16; BYTES], x: u8) -> Span
+    ensures { λ r. ⌜ SpanOf (now (marks .entry)) x r ⌝ }
+{
+    let every = &marks[..];
+    let at = x as usize;
+    let mark = every[at];
+    if mark == 0 {
+        return no_span();
+    }
+    if start_of(marks, BYTES) > ROOM {
+        return no_span();
+    }
+    let start = start_of(marks, at);
+    let len = length_of(mark);
+    Span {
+        defined: true,
+        start,
+        end: start + len,
+    }
 }
 
 // The mark of x as a text makes it; X defined as X alone is free.
@@ -227,8 +265,8 @@ fn define_text(t: Texts, x: u8, text: &[u8]) -> Defined
     let old = length_of(marks[at]);
     let mark = mark_for(x, text);
     let len = length_of(mark);
-    let total = start_of(marks, BYTES);
-    let start = start_of(marks, at);
+    let total = start_of(&marks, BYTES);
+    let start = start_of(&marks, at);
     let end = start + old;
     if total - old + len > ROOM {
         return Defined {

@@ -14,10 +14,10 @@ use Rattle.bulletin.specs.Session as BS
 use Rattle.bulletin.specs.Refinement as BK
 use Rattle.bulletin.specs.Refinement.{viewBulletin}
 use Rattle.bulletin.specs.declared.Bulletin.{Bulletin}
-use Rattle.prambow.specs.PrinterArrays.{encodedPrinter}
-use Rattle.prambow.specs.BulletinArrays.{encodedBulletin, decodedBulletin}
-use Rattle.prambow.proofs.PrinterArrays.{printer-found-again}
-use Rattle.prambow.proofs.BulletinArrays.{bulletin-found-again}
+use Rattle.session_arrays.specs.PrinterArrays.{encodedPrinter}
+use Rattle.session_arrays.specs.BulletinArrays.{encodedBulletin, decodedBulletin}
+use Rattle.session_arrays.proofs.PrinterArrays.{printer-found-again}
+use Rattle.session_arrays.proofs.BulletinArrays.{bulletin-found-again}
 use Rattle.traces.specs.Chains.{Chain, Beside, BesideChain}
 use Rattle.traces.specs.Traces as P
 use Rattle.traces.specs.BulletinTraces as B

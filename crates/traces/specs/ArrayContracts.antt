@@ -9,10 +9,10 @@ use denote.Ref.{now}
 use denote.Triple.Clauses.{AtExit}
 use Rattle.lists.specs.Buffers.{Lent, lentAs}
 use Rattle.bulletin.specs.Session as BS
-use Rattle.prambow.specs.declared.Outcome.{Outcome}
-use Rattle.prambow.specs.Numbers.{keyOfPair}
-use Rattle.prambow.specs.PrinterArrays.{PrinterArrays, arraysOfPrinter}
-use Rattle.prambow.specs.BulletinArrays.{BulletinArrays, arraysOfBulletin, RefinesOnBulletinArraysWire}
+use Rattle.session_arrays.specs.declared.Outcome.{Outcome}
+use Rattle.session_arrays.specs.Numbers.{keyOfPair}
+use Rattle.session_arrays.specs.PrinterArrays.{PrinterArrays, arraysOfPrinter}
+use Rattle.session_arrays.specs.BulletinArrays.{BulletinArrays, arraysOfBulletin, RefinesOnBulletinArraysWire}
 use Rattle.prambow.proofs.printer_calls.prambow_printer_network_byte_arrays as printer-network-byte
 use Rattle.prambow.proofs.printer_calls.prambow_printer_press_arrays as printer-press
 use Rattle.prambow.proofs.printer_calls.prambow_printer_ask_arrays as printer-ask

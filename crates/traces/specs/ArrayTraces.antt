@@ -9,9 +9,9 @@ use Rattle.printer.specs.Session as PS
 use Rattle.printer.specs.declared.Printer.{Printer}
 use Rattle.bulletin.specs.Session as BS
 use Rattle.bulletin.specs.declared.Bulletin.{Bulletin}
-use Rattle.prambow.specs.declared.Outcome.{Outcome}
-use Rattle.prambow.specs.PrinterArrays.{PrinterArrays, encodedPrinter, printerOutcome, RefinesOnPrinterArrays}
-use Rattle.prambow.specs.BulletinArrays.{BulletinArrays, encodedBulletin, bulletinOutcome, RefinesOnBulletinArrays, RefinesOnBulletinArraysWire}
+use Rattle.session_arrays.specs.declared.Outcome.{Outcome}
+use Rattle.session_arrays.specs.PrinterArrays.{PrinterArrays, encodedPrinter, printerOutcome, RefinesOnPrinterArrays}
+use Rattle.session_arrays.specs.BulletinArrays.{BulletinArrays, encodedBulletin, bulletinOutcome, RefinesOnBulletinArrays, RefinesOnBulletinArraysWire}
 use Rattle.traces.specs.Chains.{Chain, BesideChain}
 use Rattle.traces.specs.Traces as P
 use Rattle.traces.specs.BulletinTraces as B

@@ -32,31 +32,33 @@ start-of-requires-2 : tie.Need-start-of-requires-2
 start-of-requires-2 c κs = search needs
 
 sizes : (c : tie.After-start-of2)
-    → let marks-known = c .before .before .before .before .before in
-    let start = marks-known .before .before .before in
-    Sizes (start .args .t) (marks-known .before .settled .result) (start .args .x) (start .args .text .now) (c .before .before .before .before .length-of .result)
-    (c .before .before .before .mark-for .result) (c .before .before .length-of2 .result) (c .before .start-of .result) (c .start-of2 .result)
+    → let old-known = c .before .before .before .before .before .before in
+    let start = old-known .before .before .before .before in
+    Sizes (start .args .t) (old-known .before .before .settled .result) (start .args .x) (start .args .text .now) (old-known .length-of .result)
+    (c .before .before .before .before .before .mark-for .result) (c .before .before .before .before .length-of2 .result) (c .before .before .start-of .result)
+    (c .start-of2 .result)
 sizes c =
-    let marks-known = c .before .before .before .before .before in
-    let start = marks-known .before .before .before in
-    let r = marks-known .before .settled .result in
+    let old-known = c .before .before .before .before .before .before in
+    let start = old-known .before .before .before .before in
+    let r = old-known .before .before .settled .result in
     let l : length (r .marks) ≡ 256 = search needs in
     let k : length (r .cells) ≡ 1024 = search needs in
     record {
-      settled = marks-known .before .settled .ensures;
+      settled = old-known .before .before .settled .ensures;
       cells-long = k;
       byte = omega arith;
       short = start .pre;
-      old-is = c .before .before .before .before .length-of .ensures;
-      mark-is = c .before .before .before .mark-for .ensures;
-      len-is = c .before .before .length-of2 .ensures;
-      last-is = c .before .start-of .ensures ∙ lengths-all (r .marks) l;
+      old-is = old-known .length-of .ensures;
+      mark-is = c .before .before .before .before .before .mark-for .ensures;
+      len-is = c .before .before .before .before .length-of2 .ensures;
+      last-is = c .before .before .start-of .ensures ∙ lengths-all (r .marks) l;
       start-is = c .start-of2 .ensures;
     }
 
 bounds : (c : tie.After-start-of2)
-    → Bounded (c .before .before .before .before .before .before .before .before .args .text .now) (c .before .before .before .before .length-of .result)
-    (c .before .before .length-of2 .result) (c .before .start-of .result) (c .start-of2 .result)
+    → let old-known = c .before .before .before .before .before .before in
+    Bounded (old-known .before .before .before .before .args .text .now) (old-known .length-of .result) (c .before .before .before .before .length-of2 .result)
+    (c .before .before .start-of .result) (c .start-of2 .result)
 bounds c = bounded _ _ _ _ _ _ _ _ _ (sizes c)
 
 add-end : tie.Need-add-end
@@ -66,7 +68,7 @@ sub-if1 : tie.Need-sub-if1
 sub-if1 c = omega (arith, bounds c .inside)
 
 add-if1 : tie.Need-add-if1
-add-if1 c = omega (arith, bounds c .room, bounds c .part, c .before .before .before .before .before .before .before .before .pre)
+add-if1 c = omega (arith, bounds c .room, bounds c .part, c .before .before .before .before .before .before .before .before .before .before .pre)
 
 returns : tie.Need-returns
 returns c = refused-text _ _ _ _ _ _ _ _ _ (sizes (c .before)) (c .if1 .taken)

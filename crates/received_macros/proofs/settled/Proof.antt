@@ -14,14 +14,14 @@ empty-requires c κs = search needs
 
 returns : tie.Need-returns
 returns c =
-    let t = c .before .before .before .before .args .t in
+    let t = c .before .before .before .before .before .args .t1 in
     let l : length (t .marks) ≡ 256 = search needs in
     let e = c .before .before .start-of .ensures in
     rw (c .empty .ensures) (settled-over t (omega (arith, e, lengths-all (t .marks) l)))
 
 returns-2 : tie.Need-returns-2
 returns-2 c =
-    let t = c .before .before .before .args .t in
+    let t = c .before .before .before .before .args .t1 in
     let l : length (t .marks) ≡ 256 = search needs in
     settled-within t (omega (arith, c .before .start-of .ensures, lengths-all (t .marks) l))
 

@@ -10,10 +10,10 @@ use Rattle.received_macros.proofs.start_of.Statement.{statement}
 use Rattle.received_macros.proofs.start_of.Tie as tie
 
 abbrev Inv-loop : tie.InvT-loop
-Inv-loop x marks start₀ i₀ start i = (i ≤ x) × (start ≤ 255 * i) × (start ≡ lengths (take i marks))
+Inv-loop marks x every start₀ i₀ start i = (i ≤ x) × (start ≤ 255 * i) × (start ≡ lengths (take i marks))
 
 abbrev μ-loop : tie.MeasureT-loop
-μ-loop x marks start₀ i₀ start i = x - i
+μ-loop marks x every start₀ i₀ start i = x - i
 
 loop-holds : tie.Need-loop-holds Inv-loop μ-loop
 unfolding sum
@@ -22,8 +22,8 @@ loop-holds c = (omega arith, omega arith, refl)
 mul-length-of : tie.Need-mul-length-of Inv-loop μ-loop
 mul-length-of c = search needs
 
-array-read-length-of : tie.Need-array-read-length-of Inv-loop μ-loop
-array-read-length-of c = search needs
+shared-slice-read-length-of : tie.Need-shared-slice-read-length-of Inv-loop μ-loop
+shared-slice-read-length-of c = search needs
 
 length-of-requires : tie.Need-length-of-requires Inv-loop μ-loop
 length-of-requires c κs = search needs
@@ -39,8 +39,8 @@ loop-less c = search needs
 
 loop-again : tie.Need-loop-again Inv-loop μ-loop
 loop-again c =
-    let at-loop = c .before .before in
-    let marks = at-loop .before .args .t1 in
+    let at-loop = c .before .before .before in
+    let marks = at-loop .before .before .args .marks .now in
     let l : length marks ≡ 256 = search needs in
     let i = at-loop .loop .i in
     let more = sum-one-more lengthOf marks i 0 (omega arith) in
@@ -48,7 +48,7 @@ loop-again c =
 
 returns : tie.Need-returns Inv-loop μ-loop
 returns c =
-    let e : c .before .loop .i ≡ c .before .before .args .x = omega arith in
+    let e : c .before .loop .i ≡ c .before .before .before .args .x = omega arith in
     rw (← e) (c .before .loop .inv .2)
 
 pub start-of-spec : {M : Type 1} → statement M
@@ -59,7 +59,7 @@ start-of-spec =
     μ-loop
     loop-holds
     mul-length-of
-    array-read-length-of
+    shared-slice-read-length-of
     length-of-requires
     add-start
     add-i

@@ -12,13 +12,13 @@ start-of-requires c κs = search needs
 
 returns : tie.Need-returns
 returns c =
-    let t = c .before .before .before .args .t in
+    let t = c .before .before .before .before .args .t1 in
     let l : length (t .marks) ≡ 256 = search needs in
     sym (total-over t (omega (arith, c .before .start-of .ensures, lengths-all (t .marks) l)))
 
 returns-2 : tie.Need-returns-2
 returns-2 c =
-    let t = c .before .before .before .args .t in
+    let t = c .before .before .before .before .args .t1 in
     let l : length (t .marks) ≡ 256 = search needs in
     let k : length (t .cells) ≡ 1024 = search needs in
     let end = c .before .start-of .ensures ∙ lengths-all (t .marks) l in

@@ -1,5 +1,5 @@
 use mathlib.Core.Path.{ap, _∙_}
-use Rattle.prambow.specs.BulletinArrays.{encodedBulletin}
+use Rattle.session_arrays.specs.BulletinArrays.{encodedBulletin}
 use borrow.Author.Needs.{needs}
 use Rattle.prambow.proofs.bulletin_calls.prambow_bulletin_fresh_arrays.Statement.{
   statement,

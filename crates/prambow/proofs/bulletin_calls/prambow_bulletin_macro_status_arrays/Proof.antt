@@ -3,8 +3,8 @@ use mathlib.Core.List.{List}
 use Prim.Native.Nat.{ℕ}
 use Rattle.negotiation.specs.declared.End.{End}
 use Rattle.negotiation.specs.Carried.{macrosInForce}
-use Rattle.prambow.specs.Numbers.{sidesIn}
-use Rattle.prambow.proofs.BulletinArrays.{status-on, status-off}
+use Rattle.session_arrays.specs.Numbers.{sidesIn}
+use Rattle.session_arrays.proofs.BulletinArrays.{status-on, status-off}
 use borrow.Author.Needs.{needs}
 use Rattle.prambow.proofs.bulletin_calls.prambow_bulletin_macro_status_arrays.Statement.{
   statement,

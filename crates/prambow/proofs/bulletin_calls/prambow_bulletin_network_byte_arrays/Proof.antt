@@ -1,5 +1,5 @@
 use Rattle.bulletin.specs.Calls.{networkCall}
-use Rattle.prambow.proofs.BulletinArrays.{on-arrays}
+use Rattle.session_arrays.proofs.BulletinArrays.{on-arrays}
 use borrow.Author.Needs.{needs}
 use Rattle.prambow.proofs.bulletin_calls.prambow_bulletin_network_byte_arrays.Statement.{
   statement,

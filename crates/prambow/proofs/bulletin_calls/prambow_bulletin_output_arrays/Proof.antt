@@ -1,7 +1,7 @@
 use mathlib.Core.Path.{_∙_}
 use lib.ListN.{getD}
-use Rattle.prambow.specs.Numbers.{flagOf}
-use Rattle.prambow.proofs.Decoding.{flag-output}
+use Rattle.session_arrays.specs.Numbers.{flagOf}
+use Rattle.session_arrays.proofs.Decoding.{flag-output}
 use borrow.Author.Needs.{needs}
 use Rattle.prambow.proofs.bulletin_calls.prambow_bulletin_output_arrays.Statement.{
   statement,

@@ -1,5 +1,5 @@
 use mathlib.Core.Path.{ap, _∙_}
-use Rattle.prambow.specs.PrinterArrays.{encodedPrinter}
+use Rattle.session_arrays.specs.PrinterArrays.{encodedPrinter}
 use borrow.Author.Needs.{needs}
 use Rattle.prambow.proofs.printer_calls.prambow_printer_fresh_arrays.Statement.{statement}
 use Rattle.prambow.proofs.printer_calls.prambow_printer_fresh_arrays.Tie as tie

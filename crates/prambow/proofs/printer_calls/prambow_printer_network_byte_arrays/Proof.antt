@@ -1,5 +1,5 @@
 use Rattle.printer.specs.Calls.{networkCall}
-use Rattle.prambow.proofs.PrinterArrays.{on-arrays}
+use Rattle.session_arrays.proofs.PrinterArrays.{on-arrays}
 use borrow.Author.Needs.{needs}
 use Rattle.prambow.proofs.printer_calls.prambow_printer_network_byte_arrays.Statement.{
   statement,

@@ -1,5 +1,5 @@
 use Rattle.printer.specs.Calls.{suggestCall}
-use Rattle.prambow.proofs.PrinterArrays.{on-arrays}
+use Rattle.session_arrays.proofs.PrinterArrays.{on-arrays}
 use borrow.Author.Needs.{needs}
 use Rattle.prambow.proofs.printer_calls.prambow_printer_suggest_arrays.Statement.{
   statement,

@@ -76,8 +76,8 @@ returns-3 c =
     let if3 = c .before .before .before .before .before .before .before .if3 in
     rw (inside-read (viewPrinter (a .t1)) (a .b) (sym (is-between .ensures) ∙ not-true _ (if3 .taken))) (c .before .before .before .before .byte-read3 .ensures)
 
-defined-read-requires : tie.Need-defined-read-requires
-defined-read-requires c κs =
+marked-read-requires : tie.Need-marked-read-requires
+marked-read-requires c κs =
     let start = c .before .before .before .before .before .before .before .before .before .before .before .before .before .before in
     let a = start .args in
     let macros = c .before .before .before .before .before .before .before .before .before .before .macros-in-force in
@@ -98,7 +98,7 @@ returns-4 c =
     let if1 = c .before .before .before .before .before .before .before .before .before .before .before .before .before .before .if1 in
     let is-between = c .before .before .before .before .before .before .before .before .is-between in
     let if3 = c .before .before .before .before .before .before .before .if3 in
-    rw (chosen-read (viewPrinter (a .t1)) (a .b) (sym (macros .ensures) ∙ not-false _ (if1 .left)) (sym (is-between .ensures) ∙ not-false _ (if3 .left))) (c .before .before .before .before .defined-read .ensures)
+    rw (chosen-read (viewPrinter (a .t1)) (a .b) (sym (macros .ensures) ∙ not-false _ (if1 .left)) (sym (is-between .ensures) ∙ not-false _ (if3 .left))) (c .before .before .before .before .marked-read .ensures)
 
 pub network-read-spec : {M : Type 1} → statement M
 network-read-spec =
@@ -119,7 +119,7 @@ network-read-spec =
     same-length-5
     same-length-6
     returns-3
-    defined-read-requires
+    marked-read-requires
     same-length-7
     same-length-8
     returns-4)

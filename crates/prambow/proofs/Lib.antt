@@ -1,3 +1,0 @@
-pub mod BulletinArrays
-pub mod Decoding
-pub mod PrinterArrays

@@ -1,3 +1,0 @@
-pub mod BulletinArrays
-pub mod Numbers
-pub mod PrinterArrays

@@ -1,0 +1,16 @@
+-- The parts of two buffers that are lent on have the room that is left.
+use mathlib.Core.Path.{_≡_}
+use mathlib.Core.Bool.{false}
+use Prim.Native.Nat.{ℕ}
+use native.Mathlib.Omega.{arith}
+use lib.ListN.{length, length-take, length-drop}
+use Rattle.lists.specs.Buffers.{Lent}
+use Rattle.lists.proofs.Parts.{restOf}
+use Rattle.codes.specs.Answers.{noRoom}
+use Rattle.reader.proofs.RunLoop.{leftOf}
+
+pub room-in-rests : (first wire : Lent) (p w : ℕ) → noRoom (leftOf first p) (leftOf wire w) ≡ false → noRoom (length (restOf first p)) (length (restOf wire w)) ≡ false
+room-in-rests first wire p w room =
+    let on-first : length (restOf first p) ≡ leftOf first p = simp (length-take, length-drop) (omega arith) in
+    let on-wire : length (restOf wire w) ≡ leftOf wire w = simp (length-take, length-drop) (omega arith) in
+    rw (on-first, on-wire) room

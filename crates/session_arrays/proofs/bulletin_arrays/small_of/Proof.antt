@@ -1,0 +1,29 @@
+use borrow.Author.Needs.{needs}
+use Rattle.session_arrays.proofs.bulletin_arrays.small_of.Statement.{statement}
+use Rattle.session_arrays.proofs.bulletin_arrays.small_of.Tie as tie
+
+side-numbers-requires : tie.Need-side-numbers-requires
+side-numbers-requires c κs = search needs
+
+phase-number-requires : tie.Need-phase-number-requires
+phase-number-requires c κs = search needs
+
+flag-number-requires : tie.Need-flag-number-requires
+flag-number-requires c κs = search needs
+
+flag-number-requires-2 : tie.Need-flag-number-requires-2
+flag-number-requires-2 c κs = search needs
+
+returns : tie.Need-returns
+returns c =
+    rw (c .before .before .before .side-numbers .ensures, c .before .before .phase-number .ensures, c .before .flag-number .ensures, c .flag-number2 .ensures)
+
+pub small-of-spec : {M : Type 1} → statement M
+small-of-spec =
+    tie.close
+    (tie.spec
+    side-numbers-requires
+    phase-number-requires
+    flag-number-requires
+    flag-number-requires-2
+    returns)

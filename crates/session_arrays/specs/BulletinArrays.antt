@@ -1,0 +1,120 @@
+-- The bulletin end as arrays of numbers that a host lends.
+use mathlib.Core.Path.{_≡_}
+use mathlib.Core.Bool.{Bool, cond}
+use mathlib.Core.List.{List, [], _∷_}
+use Prim.Native.Nat.{ℕ}
+use lib.ListN.{getD}
+use denote.Ref.{RefT}
+use denote.Triple.Both.{Both}
+use Rattle.lists.specs.Buffers.{Lent}
+use Rattle.codes.specs.Answers.{codeNumber, noteNumber, isDone}
+use Rattle.negotiation.specs.declared.Sides.{Sides}
+use Rattle.reader.specs.declared.Phase.{Phase}
+use Rattle.sent_macros.specs.Sending.{statusNumber}
+use Rattle.bulletin.specs.State.{BulletinState, CallEffect}
+use Rattle.bulletin.specs.Calls.{macroStatus, returnsReport, outputNow}
+use Rattle.bulletin.specs.Refinement.{viewBulletin, RefinesAnswer, RefinesAnswerOnWire}
+use Rattle.bulletin.specs.declared.Bulletin.{Bulletin}
+use Rattle.bulletin.specs.declared.Answer.{Answer}
+use Rattle.session_arrays.specs.declared.Outcome.{Outcome}
+use Rattle.session_arrays.specs.declared.Reported.{Reported}
+use Rattle.session_arrays.specs.Numbers.{flagNumber, flagOf, sidesIn, readerIn, smallOf, reportIn, outputNumber}
+
+-- small: the states of the six sides, the reader's phase and whether its body is marred, whether output waits, DS and DR.
+-- counts: bytes of the body.
+pub record BulletinArrays : Type 0 where
+  pub small : List ℕ
+  pub counts : List ℕ
+  pub body : List ℕ
+  pub statuses : List ℕ
+  pub marks : List ℕ
+  pub cells : List ℕ
+
+-- every record of arrays is a state
+abbrev pub decodedBulletin : BulletinArrays → Bulletin
+decodedBulletin a = record {
+  sides = sidesIn (a .small);
+  reader = readerIn (a .small) (a .counts) (a .body);
+  table = record { statuses = a .statuses; texts = record { marks = a .marks; cells = a .cells } };
+  values = record { ds = getD (a .small) 9 0; dr = getD (a .small) 10 0 };
+  awaiting = flagOf (getD (a .small) 8 0);
+}
+
+abbrev pub smallOfBulletin : Bulletin → List ℕ
+smallOfBulletin b = smallOf (b .sides) (b .reader) (flagNumber (b .awaiting) ∷ b .values .ds ∷ b .values .dr ∷ [])
+
+-- the small parts with other option states, another phase and another wait
+abbrev pub smallInPlace : List ℕ → Sides → Phase → (awaiting : Bool) → List ℕ
+smallInPlace small sides phase awaiting =
+    smallOf sides (record { phase = phase; marred = flagOf (getD small 7 0); body = []; len = 0 }) (flagNumber awaiting ∷ getD small 9 0 ∷ getD small 10 0 ∷ [])
+
+abbrev pub encodedBulletin : Bulletin → BulletinArrays
+encodedBulletin b = record {
+  small = smallOfBulletin b;
+  counts = b .reader .len ∷ [];
+  body = b .reader .body;
+  statuses = b .table .statuses;
+  marks = b .table .texts .marks;
+  cells = b .table .texts .cells;
+}
+
+-- Assumed: nothing. Promised: a state that was stored is found again, every byte. Ruled out: two states with the same arrays.
+abbrev pub BulletinFoundAgain : Type 0
+BulletinFoundAgain = (b : Bulletin) → decodedBulletin (encodedBulletin b) ≡ b
+
+-- the arrays as a call begins and as it ends
+pub record LentBulletin : Type 0 where
+  pub before : BulletinArrays
+  pub after : BulletinArrays
+
+-- an answer in numbers
+abbrev pub bulletinOutcome : Answer → Outcome
+bulletinOutcome a = record { code = codeNumber (a .code); note = noteNumber (a .note); first = a .host; wire = a .wire }
+
+-- the arrays behind a call: those of its new state, or as they were if it was refused
+abbrev pub bulletinKept : BulletinArrays → Answer → BulletinArrays
+bulletinKept before a = cond (isDone (a .code)) (encodedBulletin (a .state)) before
+
+-- what is left of an answer once its state is stored
+pub record KeepsBulletin (a : Answer) (arrays : LentBulletin) (r : Outcome) : Type 0 where
+  pub numbers : r ≡ bulletinOutcome a
+  pub kept : arrays .after ≡ bulletinKept (arrays .before) a
+
+-- what a call on lent arrays owes to its rule, as at the printer end
+pub record RefinesOnBulletinArrays (rule : BulletinState → ℕ → ℕ → CallEffect) (arrays : LentBulletin) (host wire : Lent) (r : Outcome) : Type 0 where
+  pub answer : Answer
+  pub refines : RefinesAnswer (rule (viewBulletin (decodedBulletin (arrays .before)))) (decodedBulletin (arrays .before)) host wire answer
+  pub keeps : KeepsBulletin answer arrays r
+
+-- .. where no buffer for data is lent
+pub record RefinesOnBulletinArraysWire (rule : BulletinState → ℕ → CallEffect) (arrays : LentBulletin) (wire : Lent) (r : Outcome) : Type 0 where
+  pub answer : Answer
+  pub refines : RefinesAnswerOnWire (rule (viewBulletin (decodedBulletin (arrays .before)))) (decodedBulletin (arrays .before)) wire answer
+  pub keeps : KeepsBulletin answer arrays r
+
+-- what a question owes that looks at some of the arrays: the answer of the end, whatever the others hold
+pub record ReportsBulletin (small : List ℕ) (r : Reported) : Type 0 where
+  pub met : (a : BulletinArrays) → a .small ≡ small → reportIn r ≡ returnsReport (viewBulletin (decodedBulletin a))
+
+pub record SaysOutput (small : List ℕ) (n : ℕ) : Type 0 where
+  pub met : (a : BulletinArrays) → a .small ≡ small → n ≡ outputNumber (outputNow (viewBulletin (decodedBulletin a)))
+
+pub record SaysStatus (x : ℕ) (small statuses : List ℕ) (n : ℕ) : Type 0 where
+  pub met : (a : BulletinArrays) → a .small ≡ small → a .statuses ≡ statuses → n ≡ statusNumber (macroStatus (viewBulletin (decodedBulletin a)) x)
+
+-- the arrays behind the parameters of a call
+abbrev pub arraysOfBulletin : (small counts body statuses marks cells : List ℕ) → BulletinArrays
+arraysOfBulletin small counts body statuses marks cells = record {
+  small = small;
+  counts = counts;
+  body = body;
+  statuses = statuses;
+  marks = marks;
+  cells = cells;
+}
+
+abbrev pub lentBulletin : (small counts body statuses marks cells : Both (RefT (List ℕ)) (RefT (List ℕ))) → LentBulletin
+lentBulletin small counts body statuses marks cells = record {
+  before = arraysOfBulletin (small .entry .now) (counts .entry .now) (body .entry .now) (statuses .entry .now) (marks .entry .now) (cells .entry .now);
+  after = arraysOfBulletin (small .exit .now) (counts .exit .now) (body .exit .now) (statuses .exit .now) (marks .exit .now) (cells .exit .now);
+}

@@ -1,0 +1,5 @@
+pub mod BulletinArrays
+pub mod BulletinRuns
+pub mod Numbers
+pub mod PrinterArrays
+pub mod PrinterRuns
