@@ -384,7 +384,7 @@ def put_claims(place, texts, alone):
 def check(place, *names):
     """Whether the crates pass, and what the check says."""
     run = subprocess.run(["rt", "check", *names], cwd=place, stdout=subprocess.PIPE, stderr=subprocess.STDOUT, text=True,
-                         env=dict(os.environ, RT_JOBS="2", RT_CUT="0"))
+                         env={"RT_JOBS": "2", **os.environ, "RT_CUT": "0"})
     if run.returncode not in (0, 1):
         raise SystemExit("rt check %s: exit status %d\n%s" % (" ".join(names), run.returncode, run.stdout[-2000:]))
     return run.returncode == 0, run.stdout

@@ -12,7 +12,7 @@ use Rattle.reader.specs.Reading.{byteBy, isBetween, isData}
 use Rattle.reader.proofs.DataBytes.{read-data}
 use Rattle.bulletin.specs.State.{BulletinState, withReader, withAwaiting}
 use Rattle.bulletin.specs.Network.{dataRead, itemRead, networkRead}
-use Rattle.bulletin.specs.Stretches.{isSettled, dataStretch}
+use Rattle.bulletin.specs.Stretches.{isSettled, dataStretch, isPlainByte}
 use Rattle.bulletin.specs.NetworkRun.{giving}
 
 abbrev isSettledIn : BulletinState → Bool
@@ -26,7 +26,10 @@ plain-byte s h b t =
     let is-data : isData (s .reader .phase) b ≡ true = rw (t, here) in
     ap (byteBy withReader itemRead s) (read-data (s .reader) b is-data) ∙ ap (λ (x : Bool). giving (b ∷ []) (withAwaiting s x)) (sym ready)
 
--- what the code finds plain is so
+-- what the code finds plain is so: a byte by itself, and a stretch
+pub byte-plain : (s : BulletinState) (b : ℕ) → isPlainByte (s .reader .phase) (s .awaiting) b ≡ true → networkRead s b ≡ giving (b ∷ []) s
+byte-plain s b h = plain-byte s (both-left (isSettledIn s) (notIac b) h) b (both-right (isSettledIn s) (notIac b) h)
+
 module _ (s : BulletinState) (bs : List ℕ) (n : ℕ) (e : n ≡ dataStretch (s .reader .phase) (s .awaiting) bs) where
   pub data-within : n ≤ length bs
   unfolding dataStretch

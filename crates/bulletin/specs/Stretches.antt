@@ -14,3 +14,7 @@ isSettled phase awaiting = isBetween phase && not awaiting
 -- how many bytes at the front of those that arrive are plain
 unfoldable pub dataStretch : Phase → (awaiting : Bool) → List ℕ → ℕ
 dataStretch phase awaiting bytes = cond (isSettled phase awaiting) (front notIac bytes) 0
+
+-- one of these by itself
+abbrev pub isPlainByte : Phase → (awaiting : Bool) → ℕ → Bool
+isPlainByte phase awaiting b = isSettled phase awaiting && notIac b

@@ -1,6 +1,7 @@
 // How many bytes are plain, so that they are given to the host by one copy and the state is not looked at for each.
 ghost use mathlib.Core.Path.{_≡_};
-ghost use Rattle.bulletin.specs.Stretches.{dataStretch};
+ghost use Rattle.bulletin.specs.Stretches.{dataStretch, isPlainByte};
+use codes::IAC;
 use reader::Phase;
 
 // A byte that ends a wait changes the state, and is not plain.
@@ -14,4 +15,17 @@ pub fn data_stretch(phase: Phase, awaiting: bool, bytes: &[u8]) -> usize
         return 0;
     }
     reader::text_front(bytes)
+}
+
+// One of them by itself.
+pub fn is_plain(phase: Phase, awaiting: bool, b: u8) -> bool
+    ensures { λ r. ⌜ r ≡ isPlainByte phase awaiting b ⌝ }
+{
+    if !reader::is_between(phase) {
+        return false;
+    }
+    if awaiting {
+        return false;
+    }
+    b != IAC
 }

@@ -82,6 +82,14 @@ pub extern "C" fn prambow_bulletin_network_bytes_arrays(
     if reader::cannot_begin(bytes.len(), host.len(), wire.len()) {
         return numbers::run_outcome(Code::NoRoom, Note::Clear, 0, 0, 0);
     }
+    // one plain byte needs no loop
+    if bytes.len() == 1 {
+        let b = bytes[0];
+        if bulletin_runs::is_plain(small, b) {
+            host[0] = b;
+            return numbers::run_outcome(Code::Done, Note::Clear, 1, 1, 0);
+        }
+    }
     bulletin_runs::read_bytes(
         small,
         counts,

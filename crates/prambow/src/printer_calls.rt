@@ -111,6 +111,14 @@ pub extern "C" fn prambow_printer_network_bytes_arrays(
     if reader::cannot_begin(bytes.len(), paper.len(), wire.len()) {
         return numbers::run_outcome(Code::NoRoom, Note::Clear, 0, 0, 0);
     }
+    // one plain byte needs no loop
+    if bytes.len() == 1 {
+        let b = bytes[0];
+        if printer_runs::is_plain(small, marks, b) {
+            paper[0] = b;
+            return numbers::run_outcome(Code::Done, Note::Clear, 1, 1, 0);
+        }
+    }
     printer_runs::read_bytes(
         small,
         classes,

@@ -16,7 +16,7 @@ use Rattle.rcte.specs.Control.{holding}
 use Rattle.printer.specs.declared.Printer.{Printer}
 use Rattle.printer.specs.State.{PrinterState, Effect, withRcte, rcteInForce, bmInForce, printing, followed}
 use Rattle.printer.specs.Network.{afterData, dataRead, byteRead, bytesRead, networkRead}
-use Rattle.printer.specs.Stretches.{isSettled, textStretch, isPlain, dataStretch}
+use Rattle.printer.specs.Stretches.{isSettled, textStretch, isPlain, dataStretch, isPlainByte}
 use Rattle.printer.specs.Refinement.{viewPrinter}
 use Rattle.printer.proofs.Choosing.{data-byte, plain-read, off-read}
 
@@ -79,7 +79,14 @@ arrives-plain t h b p = go (bmInForce (viewPrinter t)) refl p
         ∙ plain-byte (viewPrinter t) h b (both-left (notIac b) (isUnmarked (t .table .marks) b) q)
     go false off q = off-read (viewPrinter t) b off ∙ plain-byte (viewPrinter t) h b q
 
--- what the code finds plain is so
+-- what the code finds plain is so: a byte by itself, and a stretch
+pub byte-plain : (t : Printer) (b : ℕ) → isPlainByte (t .sides) (t .reader .phase) (t .rcte .held) (t .table .marks) b ≡ true
+    → networkRead (viewPrinter t) b ≡ printing (b ∷ []) (viewPrinter t)
+byte-plain t b h =
+    let settled = isSettledIn (viewPrinter t) in
+    let passes = isPlain (t .sides) (t .table .marks) b in
+    arrives-plain t (both-left settled passes h) b (both-right settled passes h)
+
 module _ (t : Printer) (bs : List ℕ) (n : ℕ) (e : n ≡ dataStretch (t .sides) (t .reader .phase) (t .rcte .held) (t .table .marks) bs) where
   pub data-within : n ≤ length bs
   unfolding dataStretch

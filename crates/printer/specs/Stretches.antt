@@ -26,3 +26,7 @@ isPlain sides marks = cond (macrosInForce End.Printer sides) (isUnmarkedText mar
 
 unfoldable pub dataStretch : Sides → Phase → (held : Bool) → (marks : List ℕ) → List ℕ → ℕ
 dataStretch sides phase held marks bytes = cond (isSettled sides phase held) (front (isPlain sides marks) bytes) 0
+
+-- one of these by itself
+abbrev pub isPlainByte : Sides → Phase → (held : Bool) → (marks : List ℕ) → ℕ → Bool
+isPlainByte sides phase held marks b = isSettled sides phase held && isPlain sides marks b

@@ -1,6 +1,7 @@
 // How many bytes are plain, so that they are printed by one copy and the state is not looked at for each.
 ghost use mathlib.Core.Path.{_≡_};
-ghost use Rattle.printer.specs.Stretches.{isSettled, textStretch, dataStretch};
+ghost use Rattle.printer.specs.Stretches.{isSettled, textStretch, dataStretch, isPlainByte};
+use codes::IAC;
 use negotiation::End;
 use negotiation::Sides;
 use reader::Phase;
@@ -45,4 +46,20 @@ pub fn data_stretch(
         return received_macros::unmarked_front(marks, bytes);
     }
     reader::text_front(bytes)
+}
+
+// A byte that arrives, by itself.
+pub fn is_plain(sides: Sides, phase: Phase, held: bool, marks: &[u16; 256], b: u8) -> bool
+    ensures { λ r. ⌜ r ≡ isPlainByte sides phase held (now (marks .entry)) b ⌝ }
+{
+    if !is_settled(sides, phase, held) {
+        return false;
+    }
+    if b == IAC {
+        return false;
+    }
+    if negotiation::macros_in_force(End::Printer, sides) {
+        return received_macros::is_unmarked(marks, b);
+    }
+    true
 }

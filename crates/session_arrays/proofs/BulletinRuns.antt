@@ -1,35 +1,36 @@
 -- A run of network bytes on the bulletin end's arrays: how its code meets the rule.
 use mathlib.Core.Path.{_≡_, refl, sym, ap, subst, _∙_}
 use mathlib.Core.Bool.{true, false}
-use mathlib.Core.List.{List, []}
-use Prim.Native.Nat.{ℕ}
+use mathlib.Core.List.{List, [], _∷_}
+use Prim.Native.Nat.{ℕ, _-_}
 use native.Mathlib.Omega.{arith}
-use lib.ListN.{length, getD}
+use lib.ListN.{length, getD, set}
 use Rattle.lists.specs.Buffers.{Lent, lentAs, untouched, WroteBothAtStart, RoomFor}
-use Rattle.lists.proofs.Starts.{wrote-none}
+use Rattle.lists.proofs.Starts.{wrote-none, wrote-start}
 use Rattle.codes.specs.Answers.{noRoom, noteNumber}
 use Rattle.codes.specs.declared.Code.the-variants.{Done, NoRoom}
 use Rattle.codes.specs.declared.Note.{Note}
 use Rattle.codes.specs.declared.Note.the-variants.{Clear}
 use Rattle.codes.proofs.Rooms.{both-lent}
-use Rattle.reader.specs.NetworkRun.{RunEffect, cannotBegin}
-use Rattle.reader.proofs.NetworkRun.{run-refused}
+use Rattle.reader.specs.NetworkRun.{RunEffect, cannotBegin, ranFrom}
+use Rattle.reader.proofs.NetworkRun.{run-refused, run-begun, ran-plain, ran-none, further-stays, PlainAt}
 use Rattle.reader.proofs.RunLoop.{Stepped, Finished}
 use Rattle.bulletin.specs.State.{BulletinState, Effect}
 use Rattle.bulletin.specs.Network.{networkRead}
 use Rattle.bulletin.specs.Calls.{networkCall}
-use Rattle.bulletin.specs.NetworkRun.{networkRun}
+use Rattle.bulletin.specs.NetworkRun.{giving, bulletinByte, networkRun}
 use Rattle.bulletin.specs.InPlace.{InPlaceEffect, inPlace, RefinesInPlace}
 use Rattle.bulletin.specs.Refinement.{viewBulletin, CleanBulletin, RefinesAnswer}
 use Rattle.bulletin.specs.declared.Bulletin.{Bulletin}
 use Rattle.bulletin.specs.declared.Answer.{Answer}
 use Rattle.bulletin.specs.declared.in_place.InPlace.{InPlace}
 use Rattle.bulletin.proofs.InPlace.{read-in-place, does-nothing, in-place-fits}
+use Rattle.bulletin.proofs.PlainBytes.{byte-plain}
 use Rattle.bulletin.proofs.Runs.{lawful, call-done}
 use Rattle.session_arrays.specs.declared.ByteOutcome.{ByteOutcome}
 use Rattle.session_arrays.specs.Numbers.{flagOf, sidesIn, phaseOf, runOutcome}
 use Rattle.session_arrays.specs.BulletinArrays.{BulletinArrays, decodedBulletin, smallOfBulletin, smallInPlace, encodedBulletin, LentBulletin, arraysOfBulletin}
-use Rattle.session_arrays.specs.BulletinRuns.{SoundBulletin, RefinesByteOnBulletinArrays, RefinesRunOutcomeOnBulletinArrays, RefinesRunOnBulletinArrays, inPlaceIn}
+use Rattle.session_arrays.specs.BulletinRuns.{SoundBulletin, RefinesByteOnBulletinArrays, RefinesRunOutcomeOnBulletinArrays, RefinesRunOnBulletinArrays, isPlainIn, inPlaceIn}
 use Rattle.session_arrays.proofs.BulletinArrays.{bulletin-found-again}
 
 -- the state that arrays stand for, as the rules see it
@@ -132,3 +133,34 @@ refines-refused arrays bytes host wire h = rw (run-refused lawful (viewArrays ar
   sound = λ k. k;
   same = λ _. refl;
 })
+
+-- a run of one plain byte: it goes to the host, and the arrays stay as they were
+module _ (arrays : BulletinArrays) (b : ℕ) (host wire : List ℕ) (room : cannotBegin 1 (length host) (length wire) ≡ false)
+    (plain : isPlainIn (arrays .small) b ≡ true) where
+  one-ran : ranFrom bulletinByte (viewArrays arrays) (b ∷ []) (length host) (length wire) ≡ record { taken = 1; effect = giving (b ∷ []) (viewArrays arrays) }
+  one-ran =
+      let s = viewArrays arrays in
+      let lent = both-lent (length host) (length wire) room in
+      let each : PlainAt lawful s (b ∷ []) = λ j lt. let first : j ≡ 0 = omega (arith, lt) in rw first (byte-plain s b plain) in
+      ran-plain lawful s (b ∷ []) [] (length host) (length wire) each (omega (arith, lent .0)) (lent .1)
+      ∙ (rw (ran-none lawful s (length host - 1) (length wire)) (further-stays lawful 1 (giving (b ∷ []) s)))
+
+  one-refines : RefinesRunOnBulletinArrays (networkRun (viewArrays arrays) (b ∷ [])) (lentArrays arrays arrays) (lentAs host (set host 0 b)) (untouched wire) (runOutcome Done Clear 1 1 0)
+  one-refines =
+      let lent = both-lent (length host) (length wire) room in
+      rw (run-begun lawful (viewArrays arrays) (b ∷ []) (length host) (length wire) room, one-ran) (record {
+        code = refl;
+        note = refl;
+        taken = refl;
+        wrote = record { paper = wrote-start (b ∷ []) host (omega (arith, lent .0)); wire = wrote-none wire };
+        view = refl;
+        sound = λ k. k;
+        same = λ n. absurd (n refl);
+      })
+
+pub refines-one : (arrays : BulletinArrays) (bytes host wire : List ℕ) → length bytes ≡ 1 → cannotBegin (length bytes) (length host) (length wire) ≡ false
+    → isPlainIn (arrays .small) (getD bytes 0 0) ≡ true
+    → RefinesRunOnBulletinArrays (networkRun (viewArrays arrays) bytes) (lentArrays arrays arrays) (lentAs host (set host 0 (getD bytes 0 0))) (untouched wire) (runOutcome Done Clear 1 1 0)
+refines-one arrays [] host wire one room plain = absurd (omega (arith, one))
+refines-one arrays (b ∷ []) host wire one room plain = one-refines arrays b host wire room plain
+refines-one arrays (b ∷ c ∷ bs) host wire one room plain = absurd (omega (arith, one))

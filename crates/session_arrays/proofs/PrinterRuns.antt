@@ -1,30 +1,33 @@
 -- A run of network bytes on the printer end's arrays: how its code meets the rule.
 use mathlib.Core.Path.{_≡_, refl, sym, ap, subst, _∙_}
 use mathlib.Core.Bool.{true, false}
-use mathlib.Core.List.{List}
-use Prim.Native.Nat.{ℕ}
-use lib.ListN.{length}
-use Rattle.lists.specs.Buffers.{Lent, untouched}
-use Rattle.lists.proofs.Starts.{wrote-none}
+use mathlib.Core.List.{List, [], _∷_}
+use Prim.Native.Nat.{ℕ, _-_}
+use native.Mathlib.Omega.{arith}
+use lib.ListN.{length, getD, set}
+use Rattle.lists.specs.Buffers.{Lent, lentAs, untouched}
+use Rattle.lists.proofs.Starts.{wrote-none, wrote-start}
 use Rattle.codes.specs.Answers.{noRoom, noteNumber}
 use Rattle.codes.specs.declared.Code.the-variants.{Done, NoRoom}
 use Rattle.codes.specs.declared.Note.{Note}
 use Rattle.codes.specs.declared.Note.the-variants.{Clear}
-use Rattle.reader.specs.NetworkRun.{RunEffect, cannotBegin}
-use Rattle.reader.proofs.NetworkRun.{run-refused}
+use Rattle.codes.proofs.Rooms.{both-lent}
+use Rattle.reader.specs.NetworkRun.{RunEffect, cannotBegin, ranFrom}
+use Rattle.reader.proofs.NetworkRun.{run-refused, run-begun, ran-plain, ran-none, further-stays, PlainAt}
 use Rattle.reader.proofs.RunLoop.{Stepped, Finished}
-use Rattle.printer.specs.State.{PrinterState, Effect}
+use Rattle.printer.specs.State.{PrinterState, Effect, printing}
 use Rattle.printer.specs.Network.{networkRead}
 use Rattle.printer.specs.Calls.{networkCall}
-use Rattle.printer.specs.NetworkRun.{networkRun}
+use Rattle.printer.specs.NetworkRun.{printerByte, networkRun}
 use Rattle.printer.specs.Refinement.{viewPrinter, CleanPrinter, RefinesAnswer}
 use Rattle.printer.specs.declared.Printer.{Printer}
 use Rattle.printer.specs.declared.Answer.{Answer}
+use Rattle.printer.proofs.PlainBytes.{byte-plain}
 use Rattle.printer.proofs.Runs.{lawful, call-done}
 use Rattle.session_arrays.specs.declared.ByteOutcome.{ByteOutcome}
 use Rattle.session_arrays.specs.Numbers.{runOutcome}
 use Rattle.session_arrays.specs.PrinterArrays.{PrinterArrays, decodedPrinter, encodedPrinter, LentPrinter}
-use Rattle.session_arrays.specs.PrinterRuns.{SoundPrinter, RefinesByteOnPrinterArrays, RefinesRunOutcomeOnPrinterArrays, RefinesRunOnPrinterArrays}
+use Rattle.session_arrays.specs.PrinterRuns.{SoundPrinter, RefinesByteOnPrinterArrays, RefinesRunOutcomeOnPrinterArrays, RefinesRunOnPrinterArrays, isPlainIn}
 use Rattle.session_arrays.proofs.PrinterArrays.{printer-found-again}
 
 -- the state that arrays stand for, as the rules see it
@@ -79,3 +82,34 @@ refines-refused arrays bytes paper wire h = rw (run-refused lawful (viewArrays a
   sound = λ k. k;
   same = λ _. refl;
 })
+
+-- a run of one plain byte: it is printed, and the arrays stay as they were
+module _ (arrays : PrinterArrays) (b : ℕ) (paper wire : List ℕ) (room : cannotBegin 1 (length paper) (length wire) ≡ false)
+    (plain : isPlainIn (arrays .small) (arrays .marks) b ≡ true) where
+  one-ran : ranFrom printerByte (viewArrays arrays) (b ∷ []) (length paper) (length wire) ≡ record { taken = 1; effect = printing (b ∷ []) (viewArrays arrays) }
+  one-ran =
+      let s = viewArrays arrays in
+      let lent = both-lent (length paper) (length wire) room in
+      let each : PlainAt lawful s (b ∷ []) = λ j lt. let first : j ≡ 0 = omega (arith, lt) in rw first (byte-plain (decodedPrinter arrays) b plain) in
+      ran-plain lawful s (b ∷ []) [] (length paper) (length wire) each (omega (arith, lent .0)) (lent .1)
+      ∙ (rw (ran-none lawful s (length paper - 1) (length wire)) (further-stays lawful 1 (printing (b ∷ []) s)))
+
+  one-refines : RefinesRunOnPrinterArrays (networkRun (viewArrays arrays) (b ∷ [])) (lentArrays arrays arrays) (lentAs paper (set paper 0 b)) (untouched wire) (runOutcome Done Clear 1 1 0)
+  one-refines =
+      let lent = both-lent (length paper) (length wire) room in
+      rw (run-begun lawful (viewArrays arrays) (b ∷ []) (length paper) (length wire) room, one-ran) (record {
+        code = refl;
+        note = refl;
+        taken = refl;
+        wrote = record { paper = wrote-start (b ∷ []) paper (omega (arith, lent .0)); wire = wrote-none wire };
+        view = refl;
+        sound = λ k. k;
+        same = λ n. absurd (n refl);
+      })
+
+pub refines-one : (arrays : PrinterArrays) (bytes paper wire : List ℕ) → length bytes ≡ 1 → cannotBegin (length bytes) (length paper) (length wire) ≡ false
+    → isPlainIn (arrays .small) (arrays .marks) (getD bytes 0 0) ≡ true
+    → RefinesRunOnPrinterArrays (networkRun (viewArrays arrays) bytes) (lentArrays arrays arrays) (lentAs paper (set paper 0 (getD bytes 0 0))) (untouched wire) (runOutcome Done Clear 1 1 0)
+refines-one arrays [] paper wire one room plain = absurd (omega (arith, one))
+refines-one arrays (b ∷ []) paper wire one room plain = one-refines arrays b paper wire room plain
+refines-one arrays (b ∷ c ∷ bs) paper wire one room plain = absurd (omega (arith, one))

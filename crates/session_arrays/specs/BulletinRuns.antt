@@ -1,5 +1,6 @@
 -- A run of network bytes at the bulletin end, on arrays that a host lends.
 use mathlib.Core.Path.{_≡_}
+use mathlib.Core.Bool.{Bool}
 use mathlib.Core.List.{List}
 use Prim.Native.Nat.{ℕ}
 use lib.ListN.{length, getD}
@@ -9,7 +10,7 @@ use Rattle.codes.specs.declared.Code.the-variants.{Done}
 use Rattle.reader.specs.NetworkRun.{RunCallEffect}
 use Rattle.bulletin.specs.State.{Effect}
 use Rattle.bulletin.specs.InPlace.{InPlaceEffect, inPlaceRead}
-use Rattle.bulletin.specs.Stretches.{dataStretch}
+use Rattle.bulletin.specs.Stretches.{dataStretch, isPlainByte}
 use Rattle.bulletin.specs.Refinement.{viewBulletin, CleanBulletin}
 use Rattle.session_arrays.specs.declared.ByteOutcome.{ByteOutcome}
 use Rattle.session_arrays.specs.declared.RunOutcome.{RunOutcome}
@@ -42,9 +43,12 @@ pub record RefinesRunOutcomeOnBulletinArrays (a : RunCallEffect Effect) (arrays 
 abbrev pub RefinesRunOnBulletinArrays : (ℕ → ℕ → RunCallEffect Effect) → LentBulletin → Lent → Lent → RunOutcome → Type 0
 RefinesRunOnBulletinArrays rule arrays host wire r = RefinesRunOutcomeOnBulletinArrays (rule (length (host .before)) (length (wire .before))) arrays host wire r
 
--- what the small parts alone decide: how many bytes at the front are plain, and what a byte does in place
+-- what the small parts alone decide: how many bytes at the front are plain, whether one byte is, and what a byte does in place
 abbrev pub stretchIn : (small bytes : List ℕ) → ℕ
 stretchIn small bytes = dataStretch (phaseOf (getD small 6 0)) (flagOf (getD small 8 0)) bytes
+
+abbrev pub isPlainIn : (small : List ℕ) → ℕ → Bool
+isPlainIn small b = isPlainByte (phaseOf (getD small 6 0)) (flagOf (getD small 8 0)) b
 
 abbrev pub inPlaceIn : (small : List ℕ) → ℕ → InPlaceEffect
 inPlaceIn small b = inPlaceRead (sidesIn small) (phaseOf (getD small 6 0)) (flagOf (getD small 8 0)) b

@@ -1,6 +1,6 @@
 -- A run of network bytes at the printer end, on arrays that a host lends.
 use mathlib.Core.Path.{_≡_}
-use mathlib.Core.Bool.{cond}
+use mathlib.Core.Bool.{Bool, cond}
 use mathlib.Core.List.{List}
 use Prim.Native.Nat.{ℕ}
 use lib.ListN.{length, getD}
@@ -9,7 +9,7 @@ use Rattle.codes.specs.Answers.{codeNumber, noteNumber}
 use Rattle.codes.specs.declared.Code.the-variants.{Done}
 use Rattle.reader.specs.NetworkRun.{RunCallEffect}
 use Rattle.printer.specs.State.{Effect}
-use Rattle.printer.specs.Stretches.{dataStretch}
+use Rattle.printer.specs.Stretches.{dataStretch, isPlainByte}
 use Rattle.printer.specs.InPlace.{InPlaceEffect, inPlaceRead, tableIn}
 use Rattle.printer.specs.Refinement.{viewPrinter, CleanPrinter}
 use Rattle.session_arrays.specs.declared.ByteOutcome.{ByteOutcome}
@@ -47,6 +47,10 @@ RefinesRunOnPrinterArrays rule arrays paper wire r = RefinesRunOutcomeOnPrinterA
 -- how many bytes at the front are plain, by the parts that this takes
 abbrev pub stretchIn : (small marks bytes : List ℕ) → ℕ
 stretchIn small marks bytes = dataStretch (sidesIn small) (phaseOf (getD small 6 0)) (flagOf (getD small 8 0)) marks bytes
+
+-- .. and whether one byte is
+abbrev pub isPlainIn : (small marks : List ℕ) → ℕ → Bool
+isPlainIn small marks b = isPlainByte (sidesIn small) (phaseOf (getD small 6 0)) (flagOf (getD small 8 0)) marks b
 
 -- a byte read in place, from the small parts and the macros alone
 abbrev pub inPlaceIn : (small marks cells : List ℕ) → ℕ → InPlaceEffect

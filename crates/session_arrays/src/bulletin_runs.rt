@@ -10,7 +10,7 @@ ghost use Rattle.bulletin.specs.InPlace.{RefinesInPlace};
 ghost use Rattle.bulletin.specs.Refinement.{viewBulletin};
 ghost use Rattle.bulletin.specs.RefinementOfRuns.{begunRun};
 ghost use Rattle.session_arrays.specs.BulletinArrays.{lentBulletin, decodedBulletin};
-ghost use Rattle.session_arrays.specs.BulletinRuns.{stretchIn, inPlaceIn, RefinesByteOnBulletinArrays, RefinesRunOnBulletinArrays};
+ghost use Rattle.session_arrays.specs.BulletinRuns.{stretchIn, isPlainIn, inPlaceIn, RefinesByteOnBulletinArrays, RefinesRunOnBulletinArrays};
 use crate::ByteOutcome;
 use crate::RunOutcome;
 use crate::bulletin_arrays;
@@ -30,6 +30,14 @@ fn plain_front(small: &[u8; 11], bytes: &[u8]) -> usize
 {
     let phase = numbers::phase_of(small[6]);
     stretches::data_stretch(phase, small[8] != 0, bytes)
+}
+
+// A byte by itself is plain.
+pub fn is_plain(small: &[u8; 11], b: u8) -> bool
+    ensures { λ r. ⌜ r ≡ isPlainIn (now (small .entry)) b ⌝ }
+{
+    let phase = numbers::phase_of(small[6]);
+    stretches::is_plain(phase, small[8] != 0, b)
 }
 
 // What a byte does to the small parts, if it changes nothing else.

@@ -9,7 +9,7 @@ ghost use Rattle.printer.specs.Network.{networkRead};
 ghost use Rattle.printer.specs.Refinement.{viewPrinter};
 ghost use Rattle.printer.specs.RefinementOfRuns.{begunRun};
 ghost use Rattle.session_arrays.specs.PrinterArrays.{lentPrinter, decodedPrinter};
-ghost use Rattle.session_arrays.specs.PrinterRuns.{RefinesByteOnPrinterArrays, RefinesRunOnPrinterArrays, stretchIn, inPlaceIn, RefinesStoredInPlace};
+ghost use Rattle.session_arrays.specs.PrinterRuns.{RefinesByteOnPrinterArrays, RefinesRunOnPrinterArrays, stretchIn, isPlainIn, inPlaceIn, RefinesStoredInPlace};
 use crate::ByteOutcome;
 use crate::InPlaceOutcome;
 use crate::RunOutcome;
@@ -32,6 +32,15 @@ fn plain_front(small: &[u8; 13], marks: &[u16; 256], bytes: &[u8]) -> usize
     let sides = numbers::sides_of(small[0], small[1], small[2], small[3], small[4], small[5]);
     let phase = numbers::phase_of(small[6]);
     stretches::data_stretch(sides, phase, small[8] != 0, marks, bytes)
+}
+
+// A byte by itself is plain.
+pub fn is_plain(small: &[u8; 13], marks: &[u16; 256], b: u8) -> bool
+    ensures { λ r. ⌜ r ≡ isPlainIn (now (small .entry)) (now (marks .entry)) b ⌝ }
+{
+    let sides = numbers::sides_of(small[0], small[1], small[2], small[3], small[4], small[5]);
+    let phase = numbers::phase_of(small[6]);
+    stretches::is_plain(sides, phase, small[8] != 0, marks, b)
 }
 
 // A byte from the small parts and the macros alone, where it changes nothing but the option states and the phase.
