@@ -64,7 +64,7 @@ pub extern "C" fn prambow_bulletin_network_byte_arrays(
 }
 
 // Network bytes one after the other, as `bulletin::calls::network_bytes` reads them. Stops before one that would be refused, and
-// behind one that gave a note.
+// behind one that gave a note. One plain byte needs no loop.
 #[no_mangle]
 pub extern "C" fn prambow_bulletin_network_bytes_arrays(
     small: &mut [u8; 11],
@@ -82,7 +82,6 @@ pub extern "C" fn prambow_bulletin_network_bytes_arrays(
     if reader::cannot_begin(bytes.len(), host.len(), wire.len()) {
         return numbers::run_outcome(Code::NoRoom, Note::Clear, 0, 0, 0);
     }
-    // one plain byte needs no loop
     if bytes.len() == 1 {
         let b = bytes[0];
         if bulletin_runs::is_plain(small, b) {

@@ -89,9 +89,8 @@ pub extern "C" fn prambow_printer_network_byte_arrays(
     )
 }
 
-// The key is a pair of numbers; one that stands for no key is refused with code 3.
 // Network bytes one after the other, as `printer::calls::network_bytes` reads them. Stops before one that would be refused, and
-// behind one that gave a note.
+// behind one that gave a note. One plain byte needs no loop.
 #[no_mangle]
 pub extern "C" fn prambow_printer_network_bytes_arrays(
     small: &mut [u8; 13],
@@ -111,7 +110,6 @@ pub extern "C" fn prambow_printer_network_bytes_arrays(
     if reader::cannot_begin(bytes.len(), paper.len(), wire.len()) {
         return numbers::run_outcome(Code::NoRoom, Note::Clear, 0, 0, 0);
     }
-    // one plain byte needs no loop
     if bytes.len() == 1 {
         let b = bytes[0];
         if printer_runs::is_plain(small, marks, b) {
@@ -134,6 +132,7 @@ pub extern "C" fn prambow_printer_network_bytes_arrays(
     )
 }
 
+// The key is a pair of numbers; one that stands for no key is refused with code 3.
 #[no_mangle]
 pub extern "C" fn prambow_printer_press_arrays(
     small: &mut [u8; 13],
