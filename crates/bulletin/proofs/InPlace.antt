@@ -27,7 +27,7 @@ use Rattle.bulletin.specs.State.{BulletinState, withSides, withReader}
 use Rattle.bulletin.specs.Network.{dataRead, sideState, sideMoved, negotiationRead, itemRead, networkRead}
 use Rattle.bulletin.specs.Refinement.{viewBulletin}
 use Rattle.bulletin.proofs.Runs.{byte-fits}
-use Rattle.bulletin.specs.InPlace.{movesAlone, unhandled, turnInPlace, itemInPlace, inPlaceRead, onWhole, ReadInPlace, InPlaceEffect, RefinesInPlace, RefinesInPlaceOnWire, replied}
+use Rattle.bulletin.specs.InPlace.{movesAlone, unhandled, turnInPlace, itemInPlace, inPlaceRead, stepInPlace, ReadInPlace, InPlaceEffect, RefinesInPlace, RefinesInPlaceOnWire, answeredInPlace}
 
 side-alone : (s : BulletinState) (side : Side) (q : OptionState) → movesAlone side ≡ true → sideState s side q ≡ withSides s (moved (s .sides) side q)
 side-alone s Echo q e = refl
@@ -49,14 +49,14 @@ module _ (p : Bulletin) (next : Phase) where
   read-on = withReader (viewBulletin p) (inPhase (viewReader (p .reader)) next)
 
   turn-handled : (t : Turn) (option : ℕ) → let e = turnInPlace (p .sides) (p .reader .phase) (p .awaiting) next t option in
-      e .handled ≡ true → sideMoved read-on (t .side) (t .next) (replyBytes (t .whose) (t .reply) option) ≡ onWhole p e
+      e .handled ≡ true → sideMoved read-on (t .side) (t .next) (replyBytes (t .whose) (t .reply) option) ≡ stepInPlace p e
   unfolding sideMoved
   turn-handled t option h =
       let alone = if-handled (movesAlone (t .side)) _ _ refl h in
       rw (alone, side-alone read-on (t .side) (t .next) alone)
 
   item-handled : (i : Item) → let e = itemInPlace (p .sides) (p .reader .phase) (p .awaiting) next i in
-      e .handled ≡ true → itemRead read-on i ≡ onWhole p e
+      e .handled ≡ true → itemRead read-on i ≡ stepInPlace p e
   unfolding dataRead negotiationRead
   item-handled Nothing h = refl
   item-handled (Data b) h = refl
@@ -110,10 +110,10 @@ module _ (handled : Bool) (sides : Sides) (phase : Phase) (awaiting : Bool) wher
   abbrev on-wire : List ℕ → InPlaceEffect
   on-wire bytes = record { handled = handled; sides = sides; phase = phase; awaiting = awaiting; host = []; wire = bytes }
 
-  pub met-reply : {bytes : List ℕ} {wire : Lent} {n : ℕ} → WroteAtStart bytes wire n → RefinesInPlaceOnWire (on-wire bytes) wire (replied handled sides phase awaiting n)
+  pub met-reply : {bytes : List ℕ} {wire : Lent} {n : ℕ} → WroteAtStart bytes wire n → RefinesInPlaceOnWire (on-wire bytes) wire (answeredInPlace handled sides phase awaiting n)
   met-reply w = record {
     met = λ host. record { handled = refl; sides = refl; phase = refl; awaiting = refl; wrote = record { paper = wrote-none host; wire = w } };
   }
 
-  pub met-unwritten : {host wire : List ℕ} → RefinesInPlace (on-wire []) (untouched host) (untouched wire) (replied handled sides phase awaiting 0)
+  pub met-unwritten : {host wire : List ℕ} → RefinesInPlace (on-wire []) (untouched host) (untouched wire) (answeredInPlace handled sides phase awaiting 0)
   met-unwritten {host} {wire} = met-reply (wrote-none wire) .met host

@@ -90,15 +90,15 @@ inPlace p sides phase awaiting = record {
 }
 
 -- an effect on parts, as that on the whole state
-abbrev pub onWhole : Bulletin → InPlaceEffect → Effect
-onWhole p e = record { note = Clear; host = e .host; wire = e .wire; state = viewBulletin (inPlace p (e .sides) (e .phase) (e .awaiting)) }
+abbrev pub stepInPlace : Bulletin → InPlaceEffect → Effect
+stepInPlace p e = record { note = Clear; host = e .host; wire = e .wire; state = viewBulletin (inPlace p (e .sides) (e .phase) (e .awaiting)) }
 
 -- Assumed: any state of the code, reached or not. Promised: a byte that is handled does what a network byte does there, without a
 -- note, and leaves all but these parts as it was. Ruled out: data that leaves output waiting; a negotiation that is handled without
 -- what follows from it.
 abbrev pub ReadInPlace : Type 0
 ReadInPlace = (p : Bulletin) (b : ℕ) → let e = inPlaceRead (p .sides) (p .reader .phase) (p .awaiting) b in
-    e .handled ≡ true → networkRead (viewBulletin p) b ≡ onWhole p e
+    e .handled ≡ true → networkRead (viewBulletin p) b ≡ stepInPlace p e
 
 -- the code's answer is the rule's: whether it is handled, the parts, the counts, and every byte of the two lent buffers
 pub record RefinesInPlace (e : InPlaceEffect) (lentHost lentWire : Lent) (r : InPlace) : Type 0 where
@@ -116,5 +116,5 @@ pub record RefinesInPlaceOnWire (e : InPlaceEffect) (lentWire : Lent) (r : InPla
   pub met : (host : List ℕ) → RefinesInPlace e (untouched host) lentWire r
 
 -- the code's answer that gives the host nothing
-abbrev pub replied : Bool → Sides → Phase → (awaiting : Bool) → (wire : ℕ) → InPlace
-replied handled sides phase awaiting wire = record { handled = handled; sides = sides; phase = phase; awaiting = awaiting; host = 0; wire = wire }
+abbrev pub answeredInPlace : Bool → Sides → Phase → (awaiting : Bool) → (wire : ℕ) → InPlace
+answeredInPlace handled sides phase awaiting wire = record { handled = handled; sides = sides; phase = phase; awaiting = awaiting; host = 0; wire = wire }

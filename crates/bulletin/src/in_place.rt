@@ -1,7 +1,7 @@
 // Network bytes read from the sides, the phase and the wait alone, so that the rest of the state stays where it lies.
 ghost use mathlib.Core.Path.{_≡_};
 ghost use Rattle.lists.specs.Buffers.{lent, RoomFor};
-ghost use Rattle.bulletin.specs.InPlace.{movesAlone, replied, givesData, negotiatedInPlace, itemInPlace, inPlaceRead, RefinesInPlace, RefinesInPlaceOnHost, RefinesInPlaceOnWire};
+ghost use Rattle.bulletin.specs.InPlace.{movesAlone, answeredInPlace, givesData, negotiatedInPlace, itemInPlace, inPlaceRead, RefinesInPlace, RefinesInPlaceOnHost, RefinesInPlaceOnWire};
 use codes::Verb;
 use negotiation::End;
 use negotiation::Side;
@@ -21,7 +21,7 @@ pub struct InPlace {
 
 // A byte that wrote nothing.
 fn unwritten(handled: bool, sides: Sides, phase: Phase, awaiting: bool) -> InPlace
-    ensures { λ r. ⌜ r ≡ replied handled sides phase awaiting 0 ⌝ }
+    ensures { λ r. ⌜ r ≡ answeredInPlace handled sides phase awaiting 0 ⌝ }
 {
     InPlace {
         handled,

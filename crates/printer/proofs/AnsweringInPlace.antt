@@ -9,7 +9,7 @@ use Rattle.negotiation.specs.declared.Sides.{Sides}
 use Rattle.reader.specs.declared.Phase.{Phase}
 use Rattle.received_macros.specs.Texts.{Entry, plain, text}
 use Rattle.printer.specs.Stretches.{isSettled}
-use Rattle.printer.specs.InPlace.{unhandled, prints, textInPlace, entryInPlace, RefinesInPlace, RefinesInPlaceOnPaper, RefinesInPlaceOnWire, unhandledAnswer}
+use Rattle.printer.specs.InPlace.{unhandled, printsInPlace, textInPlace, entryInPlace, RefinesInPlace, RefinesInPlaceOnPaper, RefinesInPlaceOnWire, unhandledAnswer}
 
 module _ {sides : Sides} {phase : Phase} where
   pub met-unhandled : {paper wire : List ℕ} → RefinesInPlace (unhandled sides phase) (untouched paper) (untouched wire) (unhandledAnswer sides phase)
@@ -22,7 +22,7 @@ module _ {sides : Sides} {phase : Phase} where
   unhandled-on-wire = record { met = λ paper. met-unhandled }
 
   pub met-printed : {bytes : List ℕ} {paper : Lent} {n : ℕ} → WroteAtStart bytes paper n
-      → RefinesInPlaceOnPaper (prints bytes sides phase) paper (record { handled = true; sides = sides; phase = phase; paper = n; wire = 0 })
+      → RefinesInPlaceOnPaper (printsInPlace bytes sides phase) paper (record { handled = true; sides = sides; phase = phase; paper = n; wire = 0 })
   met-printed w = record { met = λ wire. record { handled = refl; sides = refl; phase = refl; wrote = record { paper = w; wire = wrote-none wire } } }
 
 -- a byte that has a mark, by what was found of it

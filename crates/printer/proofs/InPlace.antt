@@ -34,7 +34,7 @@ use Rattle.printer.specs.Network.{dataRead, sideMoved, movedWithReply, n
 use Rattle.printer.specs.Stretches.{isSettled, textStretch}
 use Rattle.printer.specs.Refinement.{viewPrinter}
 use Rattle.printer.specs.Limits.{Fits}
-use Rattle.printer.specs.InPlace.{InPlaceEffect, unhandled, prints, replies, movesAlone, isFree, textInPlace, turnInPlace, itemInPlace, byteInPlace, entryInPlace, mayReplace, inPlaceRead, stepInPlace, ReadInPlace, UnhandledStays, InPlaceFits}
+use Rattle.printer.specs.InPlace.{InPlaceEffect, unhandled, printsInPlace, repliesInPlace, movesAlone, isPlainText, textInPlace, turnInPlace, itemInPlace, byteInPlace, entryInPlace, mayReplace, inPlaceRead, stepInPlace, ReadInPlace, UnhandledStays, InPlaceFits}
 use Rattle.printer.proofs.Choosing.{plain-read, off-read, inside-read, chosen-read}
 use Rattle.printer.proofs.PlainBytes.{isSettledIn, settled-still, text-stretch}
 use Rattle.printer.proofs.Steps.{followed-nothing}
@@ -61,7 +61,7 @@ inNext s next = withReader s (inPhase (s .reader) next)
 module _ (s : PrinterState) (next : Phase) where
   -- a side that moves alone
   side-moves : (side : Side) (q : OptionState) (reply : List ℕ) → movesAlone side ≡ true
-      → movedWithReply (inNext s next) side q reply ≡ stepOf s (replies reply (moved (s .sides) side q) next)
+      → movedWithReply (inNext s next) side q reply ≡ stepOf s (repliesInPlace reply (moved (s .sides) side q) next)
   unfolding sideMoved
   side-moves Echo q reply h = rw append-nil
   side-moves BulletinSga q reply h = rw append-nil
@@ -93,7 +93,7 @@ byte-does s b h =
     go false e k = absurd (false≢true k)
 
 -- a text that is plain throughout
-free-text : (s : PrinterState) (t : List ℕ) → isSettledIn s ≡ true → isFree t ≡ true → bytesRead s t ≡ printing t s
+free-text : (s : PrinterState) (t : List ℕ) → isSettledIn s ≡ true → isPlainText t ≡ true → bytesRead s t ≡ printing t s
 unfolding textStretch bytesRead
 free-text s t settled free =
     let whole : length t ≡ textStretch (s .sides) (s .reader .phase) (s .rcte .held) t = rw settled (sym (eqb-true (front notIac t) (length t) free)) in
@@ -104,7 +104,7 @@ pub entry-does : (s : PrinterState) (b : ℕ) (e : Entry) → Does s (entryRead 
 unfolding entryInPlace
 entry-does s b plain h = absurd (false≢true h)
 entry-does s b (text t) h =
-    does-if s (bytesRead s t) (isSettledIn s) _ _ (λ settled. does-if s (bytesRead s t) (isFree t) _ _ (λ free k. free-text s t settled free)) h
+    does-if s (bytesRead s t) (isSettledIn s) _ _ (λ settled. does-if s (bytesRead s t) (isPlainText t) _ _ (λ free k. free-text s t settled free)) h
 
 pub read-in-place : ReadInPlace
 unfolding inPlaceRead
@@ -135,10 +135,10 @@ module _ (sides : Sides) (phase : Phase) where
   item-stays : (next : Phase) (held : Bool) (i : Item) → Stays (itemInPlace sides phase next held i)
   unfolding itemInPlace turnInPlace
   item-stays next held Nothing k = handled-stays _ refl k
-  item-stays next held (Data b) k = stays-if (isSettled sides next held) (prints (b ∷ []) sides next) (handled-stays _ refl) k
+  item-stays next held (Data b) k = stays-if (isSettled sides next held) (printsInPlace (b ∷ []) sides next) (handled-stays _ refl) k
   item-stays next held (Negotiated v option) k =
       let t = heardBy End.Printer sides v option in
-      stays-if (movesAlone (t .side)) (replies (replyBytes (t .whose) (t .reply) option) (moved sides (t .side) (t .next)) next) (handled-stays _ refl) k
+      stays-if (movesAlone (t .side)) (repliesInPlace (replyBytes (t .whose) (t .reply) option) (moved sides (t .side) (t .next)) next) (handled-stays _ refl) k
   item-stays next held BodyEnd k = refl
   item-stays next held StrayCommand k = refl
 
@@ -149,16 +149,16 @@ module _ (sides : Sides) (phase : Phase) where
   pub entry-stays : (held : Bool) (e : Entry) → Stays (entryInPlace sides phase held e)
   unfolding entryInPlace
   entry-stays held plain k = refl
-  entry-stays held (text t) k = stays-if (isSettled sides phase held) (textInPlace sides phase t) (stays-if (isFree t) (prints t sides phase) (handled-stays _ refl)) k
+  entry-stays held (text t) k = stays-if (isSettled sides phase held) (textInPlace sides phase t) (stays-if (isPlainText t) (printsInPlace t sides phase) (handled-stays _ refl)) k
 
   -- a byte that has a mark leaves both parts as they were
-  abbrev Kept : InPlaceEffect → Type 0
-  Kept e = (e .sides ≡ sides) × (e .phase ≡ phase)
+  abbrev UnmovedParts : InPlaceEffect → Type 0
+  UnmovedParts e = (e .sides ≡ sides) × (e .phase ≡ phase)
 
-  pub entry-kept : (held : Bool) (e : Entry) → Kept (entryInPlace sides phase held e)
+  pub entry-kept : (held : Bool) (e : Entry) → UnmovedParts (entryInPlace sides phase held e)
   unfolding entryInPlace
   entry-kept held plain = (refl, refl)
-  entry-kept held (text t) = either Kept (isSettled sides phase held) (either Kept (isFree t) (refl, refl) (refl, refl)) (refl, refl)
+  entry-kept held (text t) = either UnmovedParts (isSettled sides phase held) (either UnmovedParts (isPlainText t) (refl, refl) (refl, refl)) (refl, refl)
 
 pub unhandled-stays : UnhandledStays
 unfolding inPlaceRead

@@ -43,18 +43,18 @@ pub record InPlaceEffect : Type 0 where
 abbrev pub unhandled : Sides → Phase → InPlaceEffect
 unhandled sides phase = record { handled = false; sides = sides; phase = phase; paper = []; wire = [] }
 
-abbrev pub prints : List ℕ → Sides → Phase → InPlaceEffect
-prints bytes sides phase = record { handled = true; sides = sides; phase = phase; paper = bytes; wire = [] }
+abbrev pub printsInPlace : List ℕ → Sides → Phase → InPlaceEffect
+printsInPlace bytes sides phase = record { handled = true; sides = sides; phase = phase; paper = bytes; wire = [] }
 
-abbrev pub replies : List ℕ → Sides → Phase → InPlaceEffect
-replies bytes sides phase = record { handled = true; sides = sides; phase = phase; paper = []; wire = bytes }
+abbrev pub repliesInPlace : List ℕ → Sides → Phase → InPlaceEffect
+repliesInPlace bytes sides phase = record { handled = true; sides = sides; phase = phase; paper = []; wire = bytes }
 
 -- a text that is plain throughout
-abbrev pub isFree : List ℕ → Bool
-isFree bytes = eqb (front notIac bytes) (length bytes)
+abbrev pub isPlainText : List ℕ → Bool
+isPlainText bytes = eqb (front notIac bytes) (length bytes)
 
 abbrev pub textInPlace : Sides → Phase → List ℕ → InPlaceEffect
-textInPlace sides phase t = cond (isFree t) (prints t sides phase) (unhandled sides phase)
+textInPlace sides phase t = cond (isPlainText t) (printsInPlace t sides phase) (unhandled sides phase)
 
 -- a byte that has a mark, by its entry
 unfoldable pub entryInPlace : Sides → Phase → (held : Bool) → Entry → InPlaceEffect
@@ -63,7 +63,7 @@ entryInPlace sides phase held (text t) = cond (isSettled sides phase held) (text
 
 -- data is printed where it has nothing to hold
 abbrev pub dataInPlace : Sides → (phase next : Phase) → (held : Bool) → ℕ → InPlaceEffect
-dataInPlace sides phase next held b = cond (isSettled sides next held) (prints (b ∷ []) sides next) (unhandled sides phase)
+dataInPlace sides phase next held b = cond (isSettled sides next held) (printsInPlace (b ∷ []) sides next) (unhandled sides phase)
 
 -- nothing but its state follows as the side moves
 abbrev pub movesAlone : Side → Bool
@@ -77,7 +77,7 @@ movesAlone Uncarried = true
 
 unfoldable pub turnInPlace : Sides → (phase next : Phase) → ℕ → Turn → InPlaceEffect
 turnInPlace sides phase next option t =
-    cond (movesAlone (t .side)) (replies (replyBytes (t .whose) (t .reply) option) (moved sides (t .side) (t .next)) next) (unhandled sides phase)
+    cond (movesAlone (t .side)) (repliesInPlace (replyBytes (t .whose) (t .reply) option) (moved sides (t .side) (t .next)) next) (unhandled sides phase)
 
 abbrev pub negotiatedInPlace : Sides → (phase next : Phase) → Verb → ℕ → InPlaceEffect
 negotiatedInPlace sides phase next v option = turnInPlace sides phase next option (heardBy End.Printer sides v option)
@@ -85,7 +85,7 @@ negotiatedInPlace sides phase next v option = turnInPlace sides phase next optio
 -- what a byte completed, the phase after it being next
 unfoldable pub itemInPlace : Sides → (phase next : Phase) → (held : Bool) → Item → InPlaceEffect
 itemInPlace sides phase next held i =
-    itemBy (prints [] sides next) (dataInPlace sides phase next held) (negotiatedInPlace sides phase next) (unhandled sides phase) (unhandled sides phase) i
+    itemBy (printsInPlace [] sides next) (dataInPlace sides phase next held) (negotiatedInPlace sides phase next) (unhandled sides phase) (unhandled sides phase) i
 
 -- a byte read as it stands
 unfoldable pub byteInPlace : Sides → Phase → (held : Bool) → ℕ → InPlaceEffect

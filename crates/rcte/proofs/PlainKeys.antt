@@ -15,18 +15,18 @@ use Rattle.keys.specs.declared.Key.the-variants.{Char}
 use Rattle.keys.specs.Keys.{classOf, prints, keyPaper, keyWire}
 use Rattle.keys.specs.Refinement.{keyOfNumber}
 use Rattle.rcte.specs.Taking.{OrdersState, isBreak, isSend, flushes, takenUp}
-use Rattle.rcte.specs.Refinement.{isPlain, plainPaper, onlyGathered}
+use Rattle.rcte.specs.Refinement.{isPlainKey, plainPaper, onlyGathered}
 
-module _ (o : OrdersState) (b : ℕ) (plain : isPlain o b ≡ true) where
+module _ (o : OrdersState) (b : ℕ) (plain : isPlainKey o b ≡ true) where
   stays : flushes o (Char b) ≡ false
-  unfolding isPlain
+  unfolding isPlainKey
   stays = not-true (flushes o (Char b)) (both-left (not (flushes o (Char b))) (prints b && not (eqb b CR)) plain)
 
   unbroken : isBreak o (Char b) ≡ false
   unbroken = neither-left (isBreak o (Char b)) (isSend o (Char b)) stays
 
   its-own : (prints b && not (eqb b CR)) ≡ true
-  unfolding isPlain
+  unfolding isPlainKey
   its-own = both-right (not (flushes o (Char b))) (prints b && not (eqb b CR)) plain
 
   printed : prints b ≡ true
@@ -53,7 +53,7 @@ module _ (o : OrdersState) (number filled : ℕ) (only : onlyGathered o number f
   bounds : (ltb number 256 ≡ true) × (ltb filled 512 ≡ true)
   unfolding onlyGathered
   bounds =
-      let both = both-left (ltb number 256 && ltb filled 512) (isPlain o number) only in
+      let both = both-left (ltb number 256 && ltb filled 512) (isPlainKey o number) only in
       (both-left (ltb number 256) (ltb filled 512) both, both-right (ltb number 256) (ltb filled 512) both)
 
   pub is-byte : number < 256
@@ -66,6 +66,6 @@ module _ (o : OrdersState) (number filled : ℕ) (only : onlyGathered o number f
   unfolding keyOfNumber
   plain-key = rw (bounds .0)
 
-  pub is-plain : isPlain o number ≡ true
+  pub is-plain : isPlainKey o number ≡ true
   unfolding onlyGathered
-  is-plain = both-right (ltb number 256 && ltb filled 512) (isPlain o number) only
+  is-plain = both-right (ltb number 256 && ltb filled 512) (isPlainKey o number) only

@@ -104,8 +104,8 @@ abbrev pub staysFirst : List ℕ → Key → List ℕ
 staysFirst gathered k = cond (overflows gathered k) [] gathered
 
 -- a character that is its own byte on the paper and on the wire, and neither breaks nor is sent
-unfoldable pub isPlain : OrdersState → ℕ → Bool
-isPlain o b = not (flushes o (Char b)) && (prints b && not (eqb b CR))
+unfoldable pub isPlainKey : OrdersState → ℕ → Bool
+isPlainKey o b = not (flushes o (Char b)) && (prints b && not (eqb b CR))
 
 -- its paper
 abbrev pub plainPaper : OrdersState → ℕ → List ℕ
@@ -113,7 +113,7 @@ plainPaper o b = cond (o .action .skiptext) [] (b ∷ [])
 
 -- a waiting key that only adds its byte to those gathered
 unfoldable pub onlyGathered : OrdersState → ℕ → ℕ → Bool
-onlyGathered o number filled = (ltb number 256 && ltb filled gatherRoom) && isPlain o number
+onlyGathered o number filled = (ltb number 256 && ltb filled gatherRoom) && isPlainKey o number
 
 -- those bytes are gathered after it
 pub record Gathers (those : List ℕ) (before after : Gathered) : Type 0 where

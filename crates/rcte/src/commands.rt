@@ -2,7 +2,7 @@
 ghost use mathlib.Core.Path.{_≡_};
 ghost use Rattle.rcte.specs.Taking.{isBreak, isSend, isSkipped, flushes};
 ghost use Rattle.rcte.specs.Control as control;
-ghost use Rattle.rcte.specs.Refinement.{viewRcte, RefinesState, viewOrders, ordering, isPlain};
+ghost use Rattle.rcte.specs.Refinement.{viewRcte, RefinesState, viewOrders, ordering, isPlainKey};
 use crate::Orders;
 use crate::Rcte;
 use bodies::Classes;
@@ -85,8 +85,8 @@ pub fn flushes(o: Orders, k: Key) -> bool
 
 // A character that is its own byte on the paper and on the wire, and neither breaks nor is sent. IAC is left out with all
 // that do not print.
-pub fn is_plain(o: Orders, b: u8) -> bool
-    ensures { λ r. ⌜ r ≡ isPlain (viewOrders o) b ⌝ }
+pub fn is_plain_key(o: Orders, b: u8) -> bool
+    ensures { λ r. ⌜ r ≡ isPlainKey (viewOrders o) b ⌝ }
 {
     let class = keys::class_of(b);
     if keys::in_classes(o.breaks, class) {

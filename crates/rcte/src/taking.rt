@@ -144,7 +144,7 @@ pub fn only_gathered(o: Orders, number: u16, filled: usize) -> bool
     if GATHER_ROOM <= filled {
         return false;
     }
-    commands::is_plain(o, number as u8)
+    commands::is_plain_key(o, number as u8)
 }
 
 // A plain character's paper.

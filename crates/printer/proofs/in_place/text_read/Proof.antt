@@ -2,7 +2,7 @@
 use mathlib.Core.Path.{_≡_, sym, _∙_}
 use mathlib.Core.Bool.{true, false}
 use borrow.Author.Tests.{eq-eqb, ne-eqb}
-use Rattle.printer.specs.InPlace.{isFree}
+use Rattle.printer.specs.InPlace.{isPlainText}
 use Rattle.printer.proofs.AnsweringInPlace.{unhandled-on-paper, met-printed}
 use borrow.Author.Needs.{needs}
 use Rattle.printer.proofs.in_place.text_read.Statement.{statement}
@@ -17,11 +17,11 @@ unhandled-requires c κs = search needs
 returns : tie.Need-returns
 returns c =
     let t = c .before .before .before .before .before .args .text .now in
-    let free : isFree t ≡ false = ne-eqb _ _ (λ e. c .before .if1 .taken (c .before .before .text-front .ensures ∙ e)) in
+    let free : isPlainText t ≡ false = ne-eqb _ _ (λ e. c .before .if1 .taken (c .before .before .text-front .ensures ∙ e)) in
     rw (c .unhandled .ensures, free) unhandled-on-paper
 
 -- the text that is copied
-free : (c : tie.Else1) → isFree (c .before .before .before .before .args .text .now) ≡ true
+free : (c : tie.Else1) → isPlainText (c .before .before .before .before .args .text .now) ≡ true
 free c = eq-eqb _ _ (sym (c .before .text-front .ensures) ∙ c .if1 .left)
 
 put-bytes-requires : tie.Need-put-bytes-requires
