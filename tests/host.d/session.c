@@ -67,18 +67,22 @@ static void answered(prambow_outcome o)
     on_line += o.wire;
 }
 
-/* What stands on the line is read by an end, but for the byte at `lost`. */
+/* What stands on the line is read by an end, as it would come from a socket, but for the byte at `lost`. Buffers of just the size
+ * that code 1 asks for end a run behind each byte that writes, so every answer is seen. */
 static void read_line(prambow_printer *p, prambow_bulletin *b, size_t lost)
 {
     static uint8_t came[sizeof line];
-    size_t n = on_line;
-    memcpy(came, line, n);
+    size_t n = 0;
+    for (size_t i = 0; i < on_line; i++)
+        if (i != lost)
+            came[n++] = line[i];
     on_line = 0;
-    for (size_t i = 0; i < n; i++)
-        if (i != lost && p)
-            answered(prambow_printer_network_byte(p, came[i], paper, sizeof paper, wire, sizeof wire));
-        else if (i != lost)
-            answered(prambow_bulletin_network_byte(b, came[i], paper, sizeof paper, wire, sizeof wire));
+    for (size_t at = 0; at < n;) {
+        prambow_run r = p ? prambow_printer_network_bytes(p, came + at, n - at, paper, sizeof paper, wire, sizeof wire)
+                          : prambow_bulletin_network_bytes(b, came + at, n - at, paper, sizeof paper, wire, sizeof wire);
+        answered((prambow_outcome){r.code, r.note, r.first, r.wire});
+        at += r.taken;
+    }
 }
 
 static void run_macros(void)

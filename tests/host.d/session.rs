@@ -63,19 +63,22 @@ impl Host {
         self.line.extend_from_slice(wire);
     }
 
-    // What stands on the line is read by an end, but for a byte that is lost.
+    // What stands on the line is read by an end, as it would come from a socket, but for a byte that is lost. Buffers of just the
+    // size that code 1 asks for end a run behind each byte that writes, so every answer is seen.
     fn read_line(&mut self, at_printer: bool, lost: Option<usize>) {
-        let came = std::mem::take(&mut self.line);
-        for (i, &b) in came.iter().enumerate() {
-            if Some(i) == lost {
-                continue;
-            }
-            let o = if at_printer {
-                self.printer.network_byte(b, &mut self.paper, &mut self.wire)
+        let mut came = std::mem::take(&mut self.line);
+        if let Some(i) = lost {
+            came.remove(i);
+        }
+        let mut at = 0;
+        while at < came.len() {
+            let r = if at_printer {
+                self.printer.network_bytes(&came[at..], &mut self.paper, &mut self.wire)
             } else {
-                self.bulletin.network_byte(b, &mut self.paper, &mut self.wire)
+                self.bulletin.network_bytes(&came[at..], &mut self.paper, &mut self.wire)
             };
-            self.answered(o);
+            self.answered(Outcome { code: r.code, note: r.note, first: r.first, wire: r.wire });
+            at += r.taken;
         }
     }
 
