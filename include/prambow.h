@@ -184,7 +184,8 @@ static inline prambow_outcome prambow_printer_network_byte(prambow_printer *s, u
 }
 
 /* Bytes from the network one after the other, each in what the ones before left of the buffers. It stops before a byte for
- * which a buffer is too small, and behind one that gave a note: call it again with the rest. The fast way to read. */
+ * which a buffer is too small, and behind one that gave a note: call it again with the rest. It is the fast way to read,
+ * for one byte too. */
 prambow_run prambow_printer_network_bytes_arrays(PRAMBOW_PRINTER_ARRAYS, const uint8_t *bytes, size_t bytes_len,
     uint8_t *paper, size_t paper_len, uint8_t *wire, size_t wire_len);
 
