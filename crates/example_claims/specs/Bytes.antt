@@ -10,6 +10,14 @@ use Rattle.printer.specs.Session as PS
 use Rattle.bulletin.specs.State as B
 use Rattle.bulletin.specs.Session as BS
 
+-- WILL RCTE
+abbrev pub willRcte : List ℕ
+willRcte = 0xff ∷ 0xfb ∷ 0x07 ∷ []
+
+-- IAC SB, the body, IAC SE; a 255 of the body stands doubled in it
+abbrev pub body : List ℕ → List ℕ
+body bytes = 0xff ∷ 0xfa ∷ (bytes ++ (0xff ∷ 0xf0 ∷ []))
+
 -- at the printer end, in buffers that are large enough
 abbrev pub reads : List ℕ → List PS.Call
 reads bytes = map (λ b. PS.network b 1024 2048) bytes

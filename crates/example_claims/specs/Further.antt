@@ -16,12 +16,8 @@ use Rattle.printer.specs.Session as PS
 use Rattle.bulletin.specs.Session as BS
 use Rattle.printer.specs.UnusedTails.{lentAfresh}
 use Rattle.tape.specs.Running.{programs, tapeOutput}
-use Rattle.example_claims.specs.Bytes.{reads, types, hears, wireOf, answersAfter, paperBehind, wireBehind, notesBehind, sentBehind, sentCodesBehind}
+use Rattle.example_claims.specs.Bytes.{willRcte, body, reads, types, hears, wireOf, answersAfter, paperBehind, wireBehind, notesBehind, sentBehind, sentCodesBehind}
 use Rattle.example_claims.specs.Starred.{Example, example, willBm, senderHandles, receiverSays, sendsItem}
-
--- IAC SB, the body, IAC SE; a 255 of the body stands doubled in it
-abbrev body : List ℕ → List ℕ
-body bytes = 0xff ∷ 0xfa ∷ (bytes ++ (0xff ∷ 0xf0 ∷ []))
 
 -- 80 defined as IAC 1 IAC SB IAC SE
 abbrev twoNotes : List PS.Call
@@ -34,10 +30,6 @@ beganByMacro = reads (willBm ++ body (0x13 ∷ 0x01 ∷ 0x80 ∷ 0x01 ∷ 0xff �
 -- 80 defined as a DEFINE of 80 as B, and C behind it
 abbrev redefinesItself : List PS.Call
 redefinesItself = reads (willBm ++ body (0x13 ∷ 0x01 ∷ 0x80 ∷ 0x0a ∷ 0xff ∷ 0xff ∷ 0xfa ∷ 0x13 ∷ 0x01 ∷ 0x80 ∷ 0x01 ∷ 0x42 ∷ 0xff ∷ 0xff ∷ 0xf0 ∷ 0x43 ∷ []))
-
--- RCTE in force
-abbrev willRcte : List ℕ
-willRcte = 0xff ∷ 0xfb ∷ 0x07 ∷ []
 
 -- under an order that prints all, without classes, a and b are gathered; X is data, which holds; c waits
 abbrev gathers : List PS.Call

@@ -3,6 +3,7 @@ pub mod OpenedBulletin
 pub mod Showing
 pub mod Bytes
 pub mod Starred
+pub mod Visible
 pub mod Further
 pub mod Listing
 pub mod Rfc560

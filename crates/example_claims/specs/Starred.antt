@@ -60,7 +60,7 @@ rctePaper body = paperOf (reads (0xff ∷ 0xfb ∷ 0x07 ∷ 0xff ∷ 0xfa ∷ 0x
 
 abbrev pub starred : List Example
 starred =
-    example (map classOf (64 ∷ 9 ∷ 27 ∷ 96 ∷ [])) (8 ∷ 4 ∷ 5 ∷ 0 ∷ [])
+    example (map classOf (64 ∷ 9 ∷ 27 ∷ 96 ∷ [])) (8 ∷ 4 ∷ 5 ∷ 8 ∷ [])
     ∷ example (wireOf (reads (willBm ++ defineHi))) (doBm ++ 0xff ∷ 0xfa ∷ 0x13 ∷ 0x02 ∷ 0x80 ∷ 0xff ∷ 0xf0 ∷ [])
     ∷ example (paperOf (reads (willBm ++ (defineHi ++ 0x80 ∷ [])))) (0x48 ∷ 0x49 ∷ [])
     ∷ example (wireOf (reads (willBm ++ defineWrongCount))) (doBm ++ 0xff ∷ 0xfa ∷ 0x13 ∷ 0x03 ∷ 0x80 ∷ 0x03 ∷ 0xff ∷ 0xf0 ∷ [])

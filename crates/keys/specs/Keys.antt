@@ -20,9 +20,9 @@ punctuation = 46 ∷ 44 ∷ 59 ∷ 58 ∷ 63 ∷ 33 ∷ []
 abbrev pub brackets : List ℕ
 brackets = 123 ∷ 91 ∷ 40 ∷ 60 ∷ 62 ∷ 41 ∷ 93 ∷ 125 ∷ []
 
--- ' " / \ % @ $ & # + - * = ^ _ | ~
+-- ' " / \ % @ $ & # + - * = ^ _ | ~ and, by request A1, `
 abbrev pub symbols : List ℕ
-symbols = 39 ∷ 34 ∷ 47 ∷ 92 ∷ 37 ∷ 64 ∷ 36 ∷ 38 ∷ 35 ∷ 43 ∷ 45 ∷ 42 ∷ 61 ∷ 94 ∷ 95 ∷ 124 ∷ 126 ∷ []
+symbols = 39 ∷ 34 ∷ 47 ∷ 92 ∷ 37 ∷ 64 ∷ 36 ∷ 38 ∷ 35 ∷ 43 ∷ 45 ∷ 42 ∷ 61 ∷ 94 ∷ 95 ∷ 124 ∷ 126 ∷ 96 ∷ []
 
 -- a byte's class, 0 for none
 unfoldable pub classOf : ℕ → ℕ
