@@ -20,7 +20,7 @@ extern "C" {
 /* How large the buffers must be that a call is lent; smaller ones are refused with code 1. */
 enum {
     PRAMBOW_PAPER_ROOM = 1024, /* for the paper, or for the host's data */
-    PRAMBOW_WIRE_ROOM = 2048   /* for the wire */
+    PRAMBOW_WIRE_ROOM = 4096   /* for the wire */
 };
 
 /* The codes of an answer. */
@@ -29,7 +29,7 @@ enum {
     PRAMBOW_NO_ROOM = 1,            /* a lent buffer is too small */
     PRAMBOW_QUEUE_FULL = 2,         /* 256 keys wait already */
     PRAMBOW_BAD_COMMAND = 3,        /* no key: another kind, a Line with a byte, or a command outside 241 to 249 */
-    PRAMBOW_NOT_CARRIED = 4,        /* no option of this end, or no way */
+    PRAMBOW_NOT_CARRIED = 4,        /* no option of this end, no way, or an option without a value to suggest */
     PRAMBOW_ALREADY_SO = 5,         /* the option or the value is so already, or asked for already */
     PRAMBOW_NOT_IN_FORCE = 6,       /* the option that this needs is not in force */
     PRAMBOW_BAD_MACRO_BYTE = 7,     /* 255 cannot be a macro */
@@ -38,7 +38,7 @@ enum {
     PRAMBOW_NO_TEXT = 10,           /* the byte is no accepted macro */
     PRAMBOW_ECHO_AGAINST_RCTE = 11, /* of ECHO and RCTE only one may be asked for */
     PRAMBOW_BAD_VALUE = 12,         /* no such value, or no such command */
-    PRAMBOW_OUTPUT_WAITS = 13       /* behind a carriage return output waits for a byte */
+    PRAMBOW_OUTPUT_WAITS = 13       /* behind what was sent last output waits for a byte */
 };
 
 /* The notes of a network byte: what came of a body or a command that was not acted on. */
@@ -62,7 +62,10 @@ enum {
     PRAMBOW_ECHO = 1,
     PRAMBOW_SGA = 3,
     PRAMBOW_RCTE = 7,
-    PRAMBOW_NAOCRD = 10,
+    PRAMBOW_NAOCRD = 10, /* output disposition of carriage returns, */
+    PRAMBOW_NAOHTD = 12, /* of horizontal tabs, */
+    PRAMBOW_NAOFFD = 13, /* of form feeds, */
+    PRAMBOW_NAOLFD = 16, /* and of line feeds */
     PRAMBOW_BM = 19
 };
 enum {
@@ -87,7 +90,7 @@ enum {
     PRAMBOW_WAITING = 1
 };
 
-/* Who handles carriage returns. */
+/* Who handles the character of an option about output disposition. */
 enum {
     PRAMBOW_RECEIVER = 0,
     PRAMBOW_SENDER = 1
@@ -110,10 +113,18 @@ typedef struct prambow_run {
     size_t wire;   /* bytes on the wire */
 } prambow_run;
 
-/* What a report says: PRAMBOW_RECEIVER or PRAMBOW_SENDER, and by which value. */
-typedef struct prambow_report {
+/* Who handles a character: PRAMBOW_RECEIVER or PRAMBOW_SENDER, and by which value. */
+typedef struct prambow_handling {
     uint8_t who;
     uint8_t value;
+} prambow_handling;
+
+/* What a report says, of each option about output disposition. */
+typedef struct prambow_report {
+    prambow_handling naocrd;
+    prambow_handling naolfd;
+    prambow_handling naoffd;
+    prambow_handling naohtd;
 } prambow_report;
 
 /* A session of the printer end, which is keyboard and paper. */
@@ -125,8 +136,8 @@ typedef struct prambow_printer {
     uint8_t body[260];     /* the subnegotiation that is being read */
     uint8_t cells[1024];   /* the texts of macros, packed */
     uint8_t gathered[512]; /* bytes of keys that are not sent yet */
-    uint8_t small[13];     /* six option states, phase, marred, held, two bits of the action, DS, DR */
-    uint8_t unused[3];     /* no call reads or writes it: there is no padding */
+    uint8_t small[22];     /* nine option states, phase, marred, held, two bits of the action, four pairs of DS and DR */
+    uint8_t unused[2];     /* no call reads or writes it: there is no padding */
 } prambow_printer;
 
 /* A session of the bulletin end, which is the serving host. */
@@ -136,12 +147,12 @@ typedef struct prambow_bulletin {
     uint8_t body[260];     /* the subnegotiation that is being read */
     uint8_t statuses[256]; /* how each byte's last DEFINE stands */
     uint8_t cells[1024];   /* the texts of macros, packed */
-    uint8_t small[11];     /* six option states, phase, marred, waiting, DS, DR */
-    uint8_t unused[1];     /* no call reads or writes it: there is no padding */
+    uint8_t small[23];     /* nine option states, phase, marred, waiting for each of four, four pairs of DS and DR */
+    uint8_t unused[5];     /* no call reads or writes it: there is no padding */
 } prambow_bulletin;
 
-#define PRAMBOW_PRINTER_SIZE 2864  /* bytes of a printer end's session */
-#define PRAMBOW_BULLETIN_SIZE 2072 /* bytes of a bulletin end's session */
+#define PRAMBOW_PRINTER_SIZE 2872  /* bytes of a printer end's session */
+#define PRAMBOW_BULLETIN_SIZE 2088 /* bytes of a bulletin end's session */
 
 #ifdef __cplusplus
 #define PRAMBOW_CHECKED static_assert
@@ -216,17 +227,17 @@ static inline prambow_outcome prambow_printer_ask(prambow_printer *s, uint8_t op
     return prambow_printer_ask_arrays(PRAMBOW_PRINTER_OF(s), option, way, paper, paper_len, wire, wire_len);
 }
 
-/* This end's value about carriage returns, DR. Refused: 1, 6, 12, 5. */
-prambow_outcome prambow_printer_suggest_arrays(PRAMBOW_PRINTER_ARRAYS, uint8_t value, uint8_t *paper,
+/* This end's value of an option about output disposition, DR. Refused: 1, 4, 6, 12, 5. */
+prambow_outcome prambow_printer_suggest_arrays(PRAMBOW_PRINTER_ARRAYS, uint8_t option, uint8_t value, uint8_t *paper,
     size_t paper_len, uint8_t *wire, size_t wire_len);
 
-static inline prambow_outcome prambow_printer_suggest(prambow_printer *s, uint8_t value, uint8_t *paper,
-    size_t paper_len, uint8_t *wire, size_t wire_len)
+static inline prambow_outcome prambow_printer_suggest(prambow_printer *s, uint8_t option, uint8_t value,
+    uint8_t *paper, size_t paper_len, uint8_t *wire, size_t wire_len)
 {
-    return prambow_printer_suggest_arrays(PRAMBOW_PRINTER_OF(s), value, paper, paper_len, wire, wire_len);
+    return prambow_printer_suggest_arrays(PRAMBOW_PRINTER_OF(s), option, value, paper, paper_len, wire, wire_len);
 }
 
-/* Who handles carriage returns, and how. */
+/* Of each option about output disposition who handles its character, and how. */
 prambow_report prambow_printer_report_arrays(const uint8_t *small);
 
 static inline prambow_report prambow_printer_report(const prambow_printer *s)
@@ -283,14 +294,14 @@ static inline prambow_outcome prambow_bulletin_ask(prambow_bulletin *s, uint8_t 
     return prambow_bulletin_ask_arrays(PRAMBOW_BULLETIN_OF(s), option, way, wire, wire_len);
 }
 
-/* This end's value about carriage returns, DS. Refused: 1, 6, 12, 5. */
-prambow_outcome prambow_bulletin_suggest_arrays(PRAMBOW_BULLETIN_ARRAYS, uint8_t value, uint8_t *wire,
-    size_t wire_len);
+/* This end's value of an option about output disposition, DS. Refused: 1, 4, 6, 12, 5. */
+prambow_outcome prambow_bulletin_suggest_arrays(PRAMBOW_BULLETIN_ARRAYS, uint8_t option, uint8_t value,
+    uint8_t *wire, size_t wire_len);
 
-static inline prambow_outcome prambow_bulletin_suggest(prambow_bulletin *s, uint8_t value, uint8_t *wire,
-    size_t wire_len)
+static inline prambow_outcome prambow_bulletin_suggest(prambow_bulletin *s, uint8_t option, uint8_t value,
+    uint8_t *wire, size_t wire_len)
 {
-    return prambow_bulletin_suggest_arrays(PRAMBOW_BULLETIN_OF(s), value, wire, wire_len);
+    return prambow_bulletin_suggest_arrays(PRAMBOW_BULLETIN_OF(s), option, value, wire, wire_len);
 }
 
 /* An RCTE command; with 8 in cmd the break classes are sent, with 16 the transmission classes. Refused: 1, 6, 12. */
@@ -341,7 +352,7 @@ static inline uint8_t prambow_bulletin_macro_status(const prambow_bulletin *s, u
     return prambow_bulletin_macro_status_arrays(s->small, s->statuses, x);
 }
 
-/* Who handles carriage returns, and how. */
+/* Of each option about output disposition who handles its character, and how. */
 prambow_report prambow_bulletin_report_arrays(const uint8_t *small);
 
 static inline prambow_report prambow_bulletin_report(const prambow_bulletin *s)

@@ -4,7 +4,7 @@
 #![allow(dead_code)]
 
 pub const PAPER_ROOM: usize = 1024;
-pub const WIRE_ROOM: usize = 2048;
+pub const WIRE_ROOM: usize = 4096;
 
 /// The kinds of a key and of a text item.
 pub const CHAR: u8 = 0;
@@ -16,6 +16,9 @@ pub const ECHO: u8 = 1;
 pub const SGA: u8 = 3;
 pub const RCTE: u8 = 7;
 pub const NAOCRD: u8 = 10;
+pub const NAOHTD: u8 = 12;
+pub const NAOFFD: u8 = 13;
+pub const NAOLFD: u8 = 16;
 pub const BM: u8 = 19;
 pub const DISABLE_HIS: u8 = 0;
 pub const ENABLE_HIS: u8 = 1;
@@ -43,12 +46,22 @@ pub struct Run {
     pub wire: usize,
 }
 
-/// Who handles carriage returns, 0 the receiver and 1 the sender, and by which value.
+/// Who handles the character of an option about output disposition, 0 the receiver and 1 the sender, and by which value.
+#[derive(Clone, Copy, Debug, PartialEq, Eq)]
+#[repr(C)]
+pub struct Handling {
+    pub who: u8,
+    pub value: u8,
+}
+
+/// What a report says, of each option about output disposition.
 #[derive(Clone, Copy, Debug, PartialEq, Eq)]
 #[repr(C)]
 pub struct Report {
-    pub who: u8,
-    pub value: u8,
+    pub naocrd: Handling,
+    pub naolfd: Handling,
+    pub naoffd: Handling,
+    pub naohtd: Handling,
 }
 
 /// A session of the printer end, which is keyboard and paper.
@@ -62,7 +75,7 @@ pub struct Printer {
     body: [u8; 260],
     cells: [u8; 1024],
     gathered: [u8; 512],
-    small: [u8; 13],
+    small: [u8; 22],
 }
 
 /// A session of the bulletin end, which is the serving host.
@@ -74,84 +87,84 @@ pub struct Bulletin {
     body: [u8; 260],
     statuses: [u8; 256],
     cells: [u8; 1024],
-    small: [u8; 11],
+    small: [u8; 23],
 }
 
 extern "C" {
     fn prambow_printer_fresh_arrays(
-        small: &mut [u8; 13], classes: &mut [u16; 2], counts: &mut [usize; 3], body: &mut [u8; 260],
+        small: &mut [u8; 22], classes: &mut [u16; 2], counts: &mut [usize; 3], body: &mut [u8; 260],
         marks: &mut [u16; 256], cells: &mut [u8; 1024], waiting: &mut [u16; 256], gathered: &mut [u8; 512],
     );
     fn prambow_printer_network_byte_arrays(
-        small: &mut [u8; 13], classes: &mut [u16; 2], counts: &mut [usize; 3], body: &mut [u8; 260],
+        small: &mut [u8; 22], classes: &mut [u16; 2], counts: &mut [usize; 3], body: &mut [u8; 260],
         marks: &mut [u16; 256], cells: &mut [u8; 1024], waiting: &mut [u16; 256], gathered: &mut [u8; 512], b: u8,
         paper: *mut u8, paper_len: usize, wire: *mut u8, wire_len: usize,
     ) -> Outcome;
     fn prambow_printer_network_bytes_arrays(
-        small: &mut [u8; 13], classes: &mut [u16; 2], counts: &mut [usize; 3], body: &mut [u8; 260],
+        small: &mut [u8; 22], classes: &mut [u16; 2], counts: &mut [usize; 3], body: &mut [u8; 260],
         marks: &mut [u16; 256], cells: &mut [u8; 1024], waiting: &mut [u16; 256], gathered: &mut [u8; 512],
         bytes: *const u8, bytes_len: usize, paper: *mut u8, paper_len: usize, wire: *mut u8, wire_len: usize,
     ) -> Run;
     fn prambow_printer_press_arrays(
-        small: &mut [u8; 13], classes: &mut [u16; 2], counts: &mut [usize; 3], body: &mut [u8; 260],
+        small: &mut [u8; 22], classes: &mut [u16; 2], counts: &mut [usize; 3], body: &mut [u8; 260],
         marks: &mut [u16; 256], cells: &mut [u8; 1024], waiting: &mut [u16; 256], gathered: &mut [u8; 512], kind: u8,
         b: u8, paper: *mut u8, paper_len: usize, wire: *mut u8, wire_len: usize,
     ) -> Outcome;
     fn prambow_printer_ask_arrays(
-        small: &mut [u8; 13], classes: &mut [u16; 2], counts: &mut [usize; 3], body: &mut [u8; 260],
+        small: &mut [u8; 22], classes: &mut [u16; 2], counts: &mut [usize; 3], body: &mut [u8; 260],
         marks: &mut [u16; 256], cells: &mut [u8; 1024], waiting: &mut [u16; 256], gathered: &mut [u8; 512], option: u8,
         way: u8, paper: *mut u8, paper_len: usize, wire: *mut u8, wire_len: usize,
     ) -> Outcome;
     fn prambow_printer_suggest_arrays(
-        small: &mut [u8; 13], classes: &mut [u16; 2], counts: &mut [usize; 3], body: &mut [u8; 260],
-        marks: &mut [u16; 256], cells: &mut [u8; 1024], waiting: &mut [u16; 256], gathered: &mut [u8; 512], value: u8,
-        paper: *mut u8, paper_len: usize, wire: *mut u8, wire_len: usize,
+        small: &mut [u8; 22], classes: &mut [u16; 2], counts: &mut [usize; 3], body: &mut [u8; 260],
+        marks: &mut [u16; 256], cells: &mut [u8; 1024], waiting: &mut [u16; 256], gathered: &mut [u8; 512], option: u8,
+        value: u8, paper: *mut u8, paper_len: usize, wire: *mut u8, wire_len: usize,
     ) -> Outcome;
-    fn prambow_printer_report_arrays(small: &[u8; 13]) -> Report;
+    fn prambow_printer_report_arrays(small: &[u8; 22]) -> Report;
     fn prambow_printer_waiting_arrays(counts: &[usize; 3]) -> usize;
     fn prambow_bulletin_fresh_arrays(
-        small: &mut [u8; 11], counts: &mut [usize; 1], body: &mut [u8; 260], statuses: &mut [u8; 256],
+        small: &mut [u8; 23], counts: &mut [usize; 1], body: &mut [u8; 260], statuses: &mut [u8; 256],
         marks: &mut [u16; 256], cells: &mut [u8; 1024],
     );
     fn prambow_bulletin_network_byte_arrays(
-        small: &mut [u8; 11], counts: &mut [usize; 1], body: &mut [u8; 260], statuses: &mut [u8; 256],
+        small: &mut [u8; 23], counts: &mut [usize; 1], body: &mut [u8; 260], statuses: &mut [u8; 256],
         marks: &mut [u16; 256], cells: &mut [u8; 1024], b: u8, host: *mut u8, host_len: usize, wire: *mut u8,
         wire_len: usize,
     ) -> Outcome;
     fn prambow_bulletin_network_bytes_arrays(
-        small: &mut [u8; 11], counts: &mut [usize; 1], body: &mut [u8; 260], statuses: &mut [u8; 256],
+        small: &mut [u8; 23], counts: &mut [usize; 1], body: &mut [u8; 260], statuses: &mut [u8; 256],
         marks: &mut [u16; 256], cells: &mut [u8; 1024], bytes: *const u8, bytes_len: usize, host: *mut u8,
         host_len: usize, wire: *mut u8, wire_len: usize,
     ) -> Run;
     fn prambow_bulletin_ask_arrays(
-        small: &mut [u8; 11], counts: &mut [usize; 1], body: &mut [u8; 260], statuses: &mut [u8; 256],
+        small: &mut [u8; 23], counts: &mut [usize; 1], body: &mut [u8; 260], statuses: &mut [u8; 256],
         marks: &mut [u16; 256], cells: &mut [u8; 1024], option: u8, way: u8, wire: *mut u8, wire_len: usize,
     ) -> Outcome;
     fn prambow_bulletin_suggest_arrays(
-        small: &mut [u8; 11], counts: &mut [usize; 1], body: &mut [u8; 260], statuses: &mut [u8; 256],
-        marks: &mut [u16; 256], cells: &mut [u8; 1024], value: u8, wire: *mut u8, wire_len: usize,
+        small: &mut [u8; 23], counts: &mut [usize; 1], body: &mut [u8; 260], statuses: &mut [u8; 256],
+        marks: &mut [u16; 256], cells: &mut [u8; 1024], option: u8, value: u8, wire: *mut u8, wire_len: usize,
     ) -> Outcome;
     fn prambow_bulletin_order_arrays(
-        small: &mut [u8; 11], counts: &mut [usize; 1], body: &mut [u8; 260], statuses: &mut [u8; 256],
+        small: &mut [u8; 23], counts: &mut [usize; 1], body: &mut [u8; 260], statuses: &mut [u8; 256],
         marks: &mut [u16; 256], cells: &mut [u8; 1024], cmd: u8, breaks: u16, sends: u16, wire: *mut u8,
         wire_len: usize,
     ) -> Outcome;
     fn prambow_bulletin_define_arrays(
-        small: &mut [u8; 11], counts: &mut [usize; 1], body: &mut [u8; 260], statuses: &mut [u8; 256],
+        small: &mut [u8; 23], counts: &mut [usize; 1], body: &mut [u8; 260], statuses: &mut [u8; 256],
         marks: &mut [u16; 256], cells: &mut [u8; 1024], x: u8, text: *const u8, text_len: usize, wire: *mut u8,
         wire_len: usize,
     ) -> Outcome;
     fn prambow_bulletin_use_macro_arrays(
-        small: &mut [u8; 11], counts: &mut [usize; 1], body: &mut [u8; 260], statuses: &mut [u8; 256],
+        small: &mut [u8; 23], counts: &mut [usize; 1], body: &mut [u8; 260], statuses: &mut [u8; 256],
         marks: &mut [u16; 256], cells: &mut [u8; 1024], x: u8, wire: *mut u8, wire_len: usize,
     ) -> Outcome;
     fn prambow_bulletin_text_item_arrays(
-        small: &mut [u8; 11], counts: &mut [usize; 1], body: &mut [u8; 260], statuses: &mut [u8; 256],
+        small: &mut [u8; 23], counts: &mut [usize; 1], body: &mut [u8; 260], statuses: &mut [u8; 256],
         marks: &mut [u16; 256], cells: &mut [u8; 1024], kind: u8, b: u8, wire: *mut u8, wire_len: usize,
     ) -> Outcome;
-    fn prambow_bulletin_macro_status_arrays(small: &[u8; 11], statuses: &[u8; 256], x: u8) -> u8;
-    fn prambow_bulletin_report_arrays(small: &[u8; 11]) -> Report;
-    fn prambow_bulletin_output_arrays(small: &[u8; 11]) -> u8;
+    fn prambow_bulletin_macro_status_arrays(small: &[u8; 23], statuses: &[u8; 256], x: u8) -> u8;
+    fn prambow_bulletin_report_arrays(small: &[u8; 23]) -> Report;
+    fn prambow_bulletin_output_arrays(small: &[u8; 23]) -> u8;
 }
 
 // A call on the arrays of a session.
@@ -179,7 +192,7 @@ impl Printer {
             body: [0; 260],
             cells: [0; 1024],
             gathered: [0; 512],
-            small: [0; 13],
+            small: [0; 22],
         };
         on_printer!(s, prambow_printer_fresh_arrays);
         s
@@ -241,11 +254,12 @@ impl Printer {
         )
     }
 
-    /// This end's value about carriage returns, DR.
-    pub fn suggest(&mut self, value: u8, paper: &mut [u8], wire: &mut [u8]) -> Outcome {
+    /// This end's value of an option about output disposition, DR.
+    pub fn suggest(&mut self, option: u8, value: u8, paper: &mut [u8], wire: &mut [u8]) -> Outcome {
         on_printer!(
             self,
             prambow_printer_suggest_arrays,
+            option,
             value,
             paper.as_mut_ptr(),
             paper.len(),
@@ -254,7 +268,7 @@ impl Printer {
         )
     }
 
-    /// Who handles carriage returns, and how.
+    /// Of each option about output disposition who handles its character, and how.
     pub fn report(&self) -> Report {
         unsafe { prambow_printer_report_arrays(&self.small) }
     }
@@ -274,7 +288,7 @@ impl Bulletin {
             body: [0; 260],
             statuses: [0; 256],
             cells: [0; 1024],
-            small: [0; 11],
+            small: [0; 23],
         };
         on_bulletin!(s, prambow_bulletin_fresh_arrays);
         s
@@ -312,9 +326,9 @@ impl Bulletin {
         on_bulletin!(self, prambow_bulletin_ask_arrays, option, way, wire.as_mut_ptr(), wire.len())
     }
 
-    /// This end's value about carriage returns, DS.
-    pub fn suggest(&mut self, value: u8, wire: &mut [u8]) -> Outcome {
-        on_bulletin!(self, prambow_bulletin_suggest_arrays, value, wire.as_mut_ptr(), wire.len())
+    /// This end's value of an option about output disposition, DS.
+    pub fn suggest(&mut self, option: u8, value: u8, wire: &mut [u8]) -> Outcome {
+        on_bulletin!(self, prambow_bulletin_suggest_arrays, option, value, wire.as_mut_ptr(), wire.len())
     }
 
     /// An RCTE command; with 8 in cmd the break classes are sent, with 16 the transmission classes.
@@ -342,7 +356,7 @@ impl Bulletin {
         unsafe { prambow_bulletin_macro_status_arrays(&self.small, &self.statuses, x) }
     }
 
-    /// Who handles carriage returns, and how.
+    /// Of each option about output disposition who handles its character, and how.
     pub fn report(&self) -> Report {
         unsafe { prambow_bulletin_report_arrays(&self.small) }
     }

@@ -26,10 +26,11 @@ ERROR = re.compile(r"^\S*/crates/(\w+)/(specs|proofs)/(\S+?)\.antt:\d+:\d+: erro
 
 STATUSES = ["free", "pending", "pending as itself", "accepted", "refused"]
 HANDLERS = ["receiver", "sender"]
+OPTIONS = 4  # about output disposition: NAOCRD, NAOLFD, NAOFFD, NAOHTD
 OUTPUTS = ["ready", "waiting"]
 TAKES = {  # bytes; network bytes and keys are a call each, and a text may have any number
-    "P": {"net": 1, "key": 1, "ask": 2, "suggest": 1, "report": 0},
-    "B": {"net": 1, "text": 1, "ask": 2, "suggest": 1, "order": 5, "define": 1, "use": 1, "status": 1, "report": 0, "output": 0},
+    "P": {"net": 1, "key": 1, "ask": 2, "suggest": 2, "report": 0},
+    "B": {"net": 1, "text": 1, "ask": 2, "suggest": 2, "order": 5, "define": 1, "use": 1, "status": 1, "report": 0, "output": 0},
 }
 
 
@@ -142,10 +143,10 @@ def call_term(end, call, b, paper, wire):
     """A call as a term; b has its numbers, or a key's kind and number."""
     if end == "P":
         form = {"net": lambda: "PS.network %d" % b[0], "key": lambda: "PS.key %s" % key_term(*b),
-                "ask": lambda: "PS.ask %d %d" % (b[0], b[1]), "suggest": lambda: "PS.suggest %d" % b[0]}
+                "ask": lambda: "PS.ask %d %d" % (b[0], b[1]), "suggest": lambda: "PS.suggest %d %d" % (b[0], b[1])}
         return "call (%s %d %d)" % (form[call](), paper, wire)
     form = {"net": lambda: "BS.network %d %d" % (b[0], paper), "ask": lambda: "BS.ask %d %d" % (b[0], b[1]),
-            "suggest": lambda: "BS.suggest %d" % b[0], "order": lambda: "BS.order %d %d %d" % (b[0], b[1], b[2]),
+            "suggest": lambda: "BS.suggest %d %d" % (b[0], b[1]), "order": lambda: "BS.order %d %d %d" % (b[0], b[1], b[2]),
             "define": lambda: "BS.define %d (%s)" % (b[0], numbers(b[1:])), "use": lambda: "BS.useMacro %d" % b[0],
             "text": lambda: "BS.text %s" % key_term(*b)}
     return "call (%s %d)" % (form[call](), wire)
@@ -165,7 +166,7 @@ def from_json(path):
         if c.get("end") not in ("P", "B"):
             raise BadList('%s: line %d names the end %r; "P" and "B" are known' % (path, i + 1, c.get("end")))
         kind = c.get("call")
-        fields = {"net": ["b"], "ask": ["opt", "way"], "suggest": ["v"], "order": ["cmd", "bc", "tc"], "use": ["x"]}
+        fields = {"net": ["b"], "ask": ["opt", "way"], "suggest": ["opt", "v"], "order": ["cmd", "bc", "tc"], "use": ["x"]}
         try:
             if kind in ("key", "text"):
                 b = (("char", "line", "command")[c["kind"]], c.get("v", 0))
@@ -221,15 +222,24 @@ def line_calls(line, room):
     return [call_term(end, name, [b[0], 256 * b[1] + b[2], 256 * b[3] + b[4]] if name == "order" else b, paper, wire)]
 
 
+def report_numbers(text):
+    """A report's words as numbers: for each of the four options who handles its character, and the value."""
+    words = text.split()
+    if len(words) != 2 * OPTIONS or any(w not in HANDLERS for w in words[::2]):
+        raise BadList("no answer to report: %s" % text)
+    return [n for who, value in zip(words[::2], words[1::2]) for n in (HANDLERS.index(who), int(value))]
+
+
 def answer_of(term, text, waiting):
     """An answer's line as a term, and how many keys wait after it."""
     name = term.split()[0]
     if name != "call":
-        words = text.rsplit(None, 1) if name == "report" else [text]
-        known = {"status": STATUSES, "report": HANDLERS, "output": OUTPUTS}[name]
-        if words[0] not in known:
+        if name == "report":
+            return told(*report_numbers(text)), waiting
+        known = {"status": STATUSES, "output": OUTPUTS}[name]
+        if text not in known:
             raise BadList("no answer to %s: %s" % (name, text))
-        return told(known.index(words[0]), *(int(w) for w in words[1:])), waiting
+        return told(known.index(text)), waiting
     code, note, paper, wire, waiting = text.split()
     return shown(int(code), int(note), *(bytes.fromhex(h.replace("-", "")) for h in (paper, wire)), int(waiting)), int(waiting)
 

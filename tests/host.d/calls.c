@@ -34,6 +34,12 @@ static void answered(prambow_outcome o, size_t waiting)
     printf(" %zu\n", waiting);
 }
 
+static int told(prambow_report r)
+{
+    printf("%d %d %d %d ", r.naocrd.who, r.naocrd.value, r.naolfd.who, r.naolfd.value);
+    return printf("%d %d %d %d\n", r.naoffd.who, r.naoffd.value, r.naohtd.who, r.naohtd.value);
+}
+
 static int at_printer(const char *call)
 {
     prambow_outcome o;
@@ -45,11 +51,10 @@ static int at_printer(const char *call)
     else if (!strcmp(call, "ask"))
         o = prambow_printer_ask(&p, x, y, data, dn, wire, wn);
     else if (!strcmp(call, "suggest"))
-        o = prambow_printer_suggest(&p, x, data, dn, wire, wn);
-    else if (!strcmp(call, "report")) {
-        prambow_report r = prambow_printer_report(&p);
-        return printf("%d %d\n", r.who, r.value);
-    } else if (!strcmp(call, "fresh")) {
+        o = prambow_printer_suggest(&p, x, y, data, dn, wire, wn);
+    else if (!strcmp(call, "report"))
+        return told(prambow_printer_report(&p));
+    else if (!strcmp(call, "fresh")) {
         prambow_printer_fresh(&p);
         return 1;
     } else
@@ -60,9 +65,8 @@ static int at_printer(const char *call)
 
 static int asked_bulletin(const char *call)
 {
-    prambow_report r = prambow_bulletin_report(&b);
     if (!strcmp(call, "report"))
-        return printf("%d %d\n", r.who, r.value);
+        return told(prambow_bulletin_report(&b));
     if (!strcmp(call, "status"))
         return printf("%d\n", prambow_bulletin_macro_status(&b, (uint8_t)a[0]));
     if (!strcmp(call, "output"))
@@ -82,7 +86,7 @@ static int at_bulletin(const char *call)
     else if (!strcmp(call, "ask"))
         o = prambow_bulletin_ask(&b, x, y, wire, wn);
     else if (!strcmp(call, "suggest"))
-        o = prambow_bulletin_suggest(&b, x, wire, wn);
+        o = prambow_bulletin_suggest(&b, x, y, wire, wn);
     else if (!strcmp(call, "order"))
         o = prambow_bulletin_order(&b, x, (uint16_t)a[1], (uint16_t)a[2], wire, wn);
     else if (!strcmp(call, "define")) {

@@ -84,6 +84,10 @@ static void lend_record(size_t size)
     memcpy(record.was, record.at, size);
 }
 
+/* Options about output disposition, and the characters that they are about. */
+static const uint8_t dispositions[] = {PRAMBOW_NAOCRD, PRAMBOW_NAOLFD, PRAMBOW_NAOFFD, PRAMBOW_NAOHTD};
+static const uint8_t disposed[] = {13, 10, 12, 9};
+
 static prambow_outcome at_printer(prambow_printer *p)
 {
     uint8_t x = (uint8_t)random_number(), y = (uint8_t)random_number();
@@ -93,7 +97,7 @@ static prambow_outcome at_printer(prambow_printer *p)
     case 1:
         return prambow_printer_ask(p, below(2) ? x : 7, y % 5, data.at, data.len, wire.at, wire.len);
     case 2:
-        return prambow_printer_suggest(p, x, data.at, data.len, wire.at, wire.len);
+        return prambow_printer_suggest(p, below(4) ? dispositions[below(4)] : x, y, data.at, data.len, wire.at, wire.len);
     default:
         return prambow_printer_network_byte(p, below(3) ? x : 240 + x % 16, data.at, data.len, wire.at, wire.len);
     }
@@ -107,7 +111,7 @@ static prambow_outcome at_bulletin(prambow_bulletin *b)
     case 0:
         return prambow_bulletin_ask(b, below(2) ? x : 19, y % 5, wire.at, wire.len);
     case 1:
-        return prambow_bulletin_suggest(b, x, wire.at, wire.len);
+        return prambow_bulletin_suggest(b, below(4) ? dispositions[below(4)] : x, y, wire.at, wire.len);
     case 2:
         return prambow_bulletin_order(b, x % 40, (uint16_t)random_number(), y, wire.at, wire.len);
     case 3:
@@ -115,7 +119,7 @@ static prambow_outcome at_bulletin(prambow_bulletin *b)
     case 4:
         return prambow_bulletin_use_macro(b, x, wire.at, wire.len);
     case 5:
-        return prambow_bulletin_text_item(b, x % 4, y, wire.at, wire.len);
+        return prambow_bulletin_text_item(b, x % 4, below(2) ? disposed[below(4)] : y, wire.at, wire.len);
     default:
         return prambow_bulletin_network_byte(b, below(3) ? x : 240 + x % 16, data.at, data.len, wire.at, wire.len);
     }
@@ -145,7 +149,7 @@ static prambow_outcome one_byte(int printer, session *s, uint8_t b, uint8_t *d, 
 /* Bytes with many commands among them. */
 static void lend_bytes(void)
 {
-    static const uint8_t often[] = {255, 255, 255, 251, 252, 253, 254, 250, 240, 241, 3, 3, 7, 10, 19, 65};
+    static const uint8_t often[] = {255, 255, 255, 251, 252, 253, 254, 250, 240, 241, 3, 3, 7, 10, 12, 13, 16, 19, 65};
     lend(&text, below(80), 1);
     for (size_t i = 0; i < text.len; i++)
         if (below(3))
@@ -201,17 +205,20 @@ static int run_holds(int printer)
     return memcmp(&copy, record.at, record.len) == 0;
 }
 
+static int report_holds(prambow_report r)
+{
+    return r.naocrd.who <= PRAMBOW_SENDER && r.naolfd.who <= PRAMBOW_SENDER && r.naoffd.who <= PRAMBOW_SENDER &&
+           r.naohtd.who <= PRAMBOW_SENDER;
+}
+
 static int questions_hold(int printer)
 {
-    prambow_report r;
     if (printer) {
         const prambow_printer *p = (const prambow_printer *)record.at;
-        r = prambow_printer_report(p);
-        return r.who <= PRAMBOW_SENDER && prambow_printer_waiting(p) <= 256;
+        return report_holds(prambow_printer_report(p)) && prambow_printer_waiting(p) <= 256;
     }
     const prambow_bulletin *b = (const prambow_bulletin *)record.at;
-    r = prambow_bulletin_report(b);
-    return r.who <= PRAMBOW_SENDER && prambow_bulletin_output(b) <= PRAMBOW_WAITING &&
+    return report_holds(prambow_bulletin_report(b)) && prambow_bulletin_output(b) <= PRAMBOW_WAITING &&
            prambow_bulletin_macro_status(b, (uint8_t)random_number()) <= PRAMBOW_REFUSED;
 }
 
@@ -237,7 +244,7 @@ int main(int argc, char **argv)
         lend(&wire, wire.len, 1);
         prambow_outcome o = printer ? at_printer((prambow_printer *)record.at) : at_bulletin((prambow_bulletin *)record.at);
         done += o.code == PRAMBOW_DONE;
-        if (!holds(o, printer ? 3 : 1) || !questions_hold(printer)) {
+        if (!holds(o, printer ? sizeof ((prambow_printer *)0)->unused : sizeof ((prambow_bulletin *)0)->unused) || !questions_hold(printer)) {
             printf("call %lu at the %s end: code %u note %u\n", i, printer ? "printer" : "bulletin", (unsigned)o.code, (unsigned)o.note);
             return 1;
         }

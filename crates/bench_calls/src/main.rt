@@ -30,7 +30,7 @@ fn more(sum: u64, paper: usize, wire: usize) -> u64 {
 // know the state and work a call out beforehand.
 fn heard(s: Printer, bytes: &[u8]) -> Printer {
     let mut paper = [0u8; 1024];
-    let mut wire = [0u8; 2048];
+    let mut wire = [0u8; 4096];
     let mut state = s;
     let mut i: usize = 0;
     while i < bytes.len() {
@@ -77,7 +77,7 @@ fn runs(s: Printer, bytes: &[u8], times: usize, paper: &mut [u8], wire: &mut [u8
 // 256 keys that wait.
 fn with_waiting(s: Printer) -> Printer {
     let mut paper = [0u8; 1024];
-    let mut wire = [0u8; 2048];
+    let mut wire = [0u8; 4096];
     let mut state = s;
     let mut i: usize = 0;
     while i < 256 {
@@ -132,7 +132,7 @@ fn asks(s: Printer, times: usize, paper: &mut [u8], wire: &mut [u8]) -> u64 {
 
 fn run_network(s: Printer, times: usize) {
     let mut paper = [0u8; 1024];
-    let mut wire = [0u8; 2048];
+    let mut wire = [0u8; 4096];
     let bytes = network_bytes(s, times, &mut paper, &mut wire);
     say_done(b"network bytes", times, bytes);
 }
@@ -141,7 +141,7 @@ fn run_network(s: Printer, times: usize) {
 fn run_runs(s: Printer, times: usize, what: &[u8]) {
     let bytes = [b'e'; 65536];
     let mut paper = [0u8; 66560];
-    let mut wire = [0u8; 2048];
+    let mut wire = [0u8; 4096];
     let sum = runs(s, &bytes, times, &mut paper, &mut wire);
     say_done(what, times, sum);
 }
@@ -169,7 +169,7 @@ fn run_unmarked_runs(s: Printer, times: usize) {
 fn run_macros(s: Printer, times: usize) {
     let t = with_macro(s);
     let mut paper = [0u8; 1024];
-    let mut wire = [0u8; 2048];
+    let mut wire = [0u8; 4096];
     let sum = runs(t, &[128], times, &mut paper, &mut wire);
     say_done(b"macros", times, sum);
 }
@@ -180,21 +180,21 @@ fn run_commands(s: Printer, times: usize) {
     let u = with_waiting(t);
     let v = heard(u, &[255, 250, 7, 1, 255]);
     let mut paper = [0u8; 1024];
-    let mut wire = [0u8; 2048];
+    let mut wire = [0u8; 4096];
     let sum = commands(v, times, &mut paper, &mut wire);
     say_done(b"commands with 256 keys", times, sum);
 }
 
 fn run_keys(s: Printer, times: usize, what: &[u8]) {
     let mut paper = [0u8; 1024];
-    let mut wire = [0u8; 2048];
+    let mut wire = [0u8; 4096];
     let bytes = keys(s, times, &mut paper, &mut wire);
     say_done(what, times, bytes);
 }
 
 fn run_asks(s: Printer, times: usize) {
     let mut paper = [0u8; 1024];
-    let mut wire = [0u8; 2048];
+    let mut wire = [0u8; 4096];
     let bytes = asks(s, times, &mut paper, &mut wire);
     say_done(b"asks", times, bytes);
 }

@@ -1,4 +1,4 @@
-// The parsed bodies of RCTE, BM and NAOCRD. One case of each is for a body of the wrong shape.
+// The parsed bodies of RCTE, BM and the options about output disposition. One case of each is for a body of the wrong shape.
 ghost use mathlib.Core.Path.{_≡_};
 ghost use mathlib.Core.Bool.{true, cond};
 ghost use Prim.Native.Nat.{_+_, _<_};
@@ -8,6 +8,7 @@ ghost use Rattle.bodies.specs.MacroBodies.{macroBody, replyBody};
 ghost use Rattle.bodies.specs.ValueBodies.{isBadValue, valueBody};
 use codes::ACCEPT;
 use codes::DEFINE;
+use codes::Disposition;
 use codes::IAC;
 use codes::LITERAL;
 use codes::PLEASE_CANCEL;
@@ -70,7 +71,7 @@ pub enum ReplyBody {
     Unreadable,
 }
 
-// A suggestion about carriage returns.
+// A value that is suggested.
 pub enum ValueBody {
     Readable(u8),
     Unreadable,
@@ -221,15 +222,20 @@ fn reply_of(shaped: bool, reply: MacroReply) -> ReplyBody
     }
 }
 
-// 251 and 253 are not allowed.
-pub fn bad_value(v: u8) -> bool
-    ensures { λ r. ⌜ r ≡ isBadValue v ⌝ }
+// The values that an option does not allow.
+pub fn bad_value(d: Disposition, v: u8) -> bool
+    ensures { λ r. ⌜ r ≡ isBadValue d v ⌝ }
 {
-    v == 251 || v == 253
+    match d {
+        Disposition::Naocrd => v == 251 || v == 253,
+        Disposition::Naolfd => v == 251,
+        Disposition::Naoffd => false,
+        Disposition::Naohtd => false,
+    }
 }
 
-pub fn value_body(who: u8, body: &[u8]) -> ValueBody
-    ensures { λ r. ⌜ r ≡ valueBody who (now (body .entry)) ⌝ }
+pub fn value_body(d: Disposition, who: u8, body: &[u8]) -> ValueBody
+    ensures { λ r. ⌜ r ≡ valueBody d who (now (body .entry)) ⌝ }
 {
     if body.len() != 3 {
         return ValueBody::Unreadable;
@@ -238,7 +244,7 @@ pub fn value_body(who: u8, body: &[u8]) -> ValueBody
         return ValueBody::Unreadable;
     }
     let v = body[2];
-    if bad_value(v) {
+    if bad_value(d, v) {
         return ValueBody::Unreadable;
     }
     ValueBody::Readable(v)

@@ -5,7 +5,7 @@ use Prim.Native.Nat.{ℕ}
 use Rattle.negotiation.specs.declared.End.{End}
 use Rattle.negotiation.specs.declared.OptionState.{OptionState}
 use Rattle.negotiation.specs.declared.Side.{Side}
-use Rattle.negotiation.specs.declared.Side.the-variants.{Echo, BulletinSga, Rcte, Macro, PrinterSga, Returns, Uncarried}
+use Rattle.negotiation.specs.declared.Side.the-variants.{Echo, BulletinSga, Rcte, Macro, PrinterSga, Disposes, Uncarried}
 use Rattle.negotiation.specs.Carried.{moved}
 use Rattle.negotiation.specs.Apart.{Reached}
 use Rattle.negotiation.specs.Apart.Reached.{first}
@@ -23,7 +23,7 @@ ReachedIn s = Reached End.Bulletin (s .sides)
 moved-as : (s : BulletinState) (side : Side) (q : OptionState) (reply : List ℕ) → moved (s .sides) side q ≡ sideMoved s side q reply .state .sides
 unfolding sideMoved
 moved-as s Macro q reply = refl
-moved-as s Returns q reply = refl
+moved-as s (Disposes d) q reply = refl
 moved-as s Rcte q reply = refl
 moved-as s Echo q reply = refl
 moved-as s BulletinSga q reply = refl

@@ -10,5 +10,5 @@ determined-to-the-byte p q wp wq cp cq e =
     let reader = same-reader (p .reader) (q .reader) (wp .body) (wq .body) (cp .reader) (cq .reader) (ap (λ v. v .reader) e) in
     let table = clean-determined (p .table) (q .table) (wp .table) (wq .table) (cp .table) (cq .table) (ap (λ v. v .table) e) in
     let values = ap (λ v. v .values) e in
-    let awaiting = ap (λ v. v .awaiting) e in
-    λ i. record { sides = sides i; reader = reader i; table = table i; values = values i; awaiting = awaiting i }
+    let waits = ap (λ v. v .waits) e in
+    λ i. record { sides = sides i; reader = reader i; table = table i; values = values i; waits = waits i }

@@ -6,16 +6,15 @@ use Prim.Native.Nat.{ℕ}
 use lib.ListN.{set}
 use lib.Seq.{set-getD}
 use borrow.Author.Tests.{not-false}
-use Rattle.lists.proofs.Lengths.{chosen}
 use Rattle.lists.proofs.Uniform.{getD-uniform}
 use Rattle.negotiation.specs.declared.OptionState.{OptionState}
 use Rattle.negotiation.specs.declared.Side.{Side}
-use Rattle.negotiation.specs.declared.Side.the-variants.{Echo, BulletinSga, Rcte, Macro, PrinterSga, Returns, Uncarried}
+use Rattle.negotiation.specs.declared.Side.the-variants.{Echo, BulletinSga, Rcte, Macro, PrinterSga, Disposes, Uncarried}
 use Rattle.negotiation.specs.Table.{isYes}
 use Rattle.bodies.specs.declared.MacroReply.{MacroReply}
 use Rattle.bodies.specs.declared.MacroReply.the-variants.{Accept, Refuse, PleaseCancel}
-use Rattle.sent_macros.specs.Sending.{Sent, free, noDefinitions, sentOf, isAccepted}
-use Rattle.bulletin.specs.State.{BulletinState, fresh, bmInForce, Effect}
+use Rattle.sent_macros.specs.Sending.{Sent, free, noDefinitions}
+use Rattle.bulletin.specs.State.{BulletinState, fresh, bmInForce}
 use Rattle.bulletin.specs.Network.{sideMoved, macroReplied}
 use Rattle.bulletin.specs.EmptyTable.{EmptyWhileOff, TableEmptied}
 use Rattle.bulletin.proofs.Invariant.{Steps, answers-kept}
@@ -23,7 +22,7 @@ use Rattle.bulletin.proofs.Invariant.{Steps, answers-kept}
 side-empty : (s : BulletinState) (side : Side) (q : OptionState) (reply : List ℕ) → EmptyWhileOff s → EmptyWhileOff (sideMoved s side q reply .state)
 unfolding sideMoved
 side-empty s Macro q reply h = λ off. rw off
-side-empty s Returns q reply h = h
+side-empty s (Disposes d) q reply h = h
 side-empty s Rcte q reply h = h
 side-empty s Echo q reply h = h
 side-empty s BulletinSga q reply h = h

@@ -11,10 +11,11 @@ use Rattle.codes.specs.Answers.{paperRoom, wireRoom}
 use Rattle.negotiation.specs.declared.End.{End}
 use Rattle.negotiation.specs.declared.OptionState.{OptionState}
 use Rattle.negotiation.specs.declared.Side.{Side}
-use Rattle.negotiation.specs.declared.Side.the-variants.{Echo, BulletinSga, Rcte, Macro, PrinterSga, Returns, Uncarried}
+use Rattle.negotiation.specs.declared.Side.the-variants.{Echo, BulletinSga, Rcte, Macro, PrinterSga, Disposes, Uncarried}
 use Rattle.negotiation.specs.declared.Sides.{Sides}
 use Rattle.negotiation.specs.declared.Turn.{Turn}
 use Rattle.negotiation.specs.Carried.{moved, heardBy, replyBytes}
+use Rattle.disposition.specs.declared.Waits.{Waits}
 use Rattle.reader.specs.declared.Phase.{Phase}
 use Rattle.reader.specs.declared.Item.{Item}
 use Rattle.reader.specs.declared.Item.the-variants.{Nothing, Data, Negotiated, BodyEnd, StrayCommand}
@@ -35,7 +36,7 @@ side-alone s BulletinSga q e = refl
 side-alone s Rcte q e = refl
 side-alone s Macro q e = absurd (false≢true e)
 side-alone s PrinterSga q e = refl
-side-alone s Returns q e = absurd (false≢true e)
+side-alone s (Disposes d) q e = absurd (false≢true e)
 side-alone s Uncarried q e = refl
 
 -- what is handled is not the other case
@@ -48,14 +49,14 @@ module _ (p : Bulletin) (next : Phase) where
   abbrev read-on : BulletinState
   read-on = withReader (viewBulletin p) (inPhase (viewReader (p .reader)) next)
 
-  turn-handled : (t : Turn) (option : ℕ) → let e = turnInPlace (p .sides) (p .reader .phase) (p .awaiting) next t option in
+  turn-handled : (t : Turn) (option : ℕ) → let e = turnInPlace (p .sides) (p .reader .phase) (p .waits) next t option in
       e .handled ≡ true → sideMoved read-on (t .side) (t .next) (replyBytes (t .whose) (t .reply) option) ≡ stepInPlace p e
   unfolding sideMoved
   turn-handled t option h =
       let alone = if-handled (movesAlone (t .side)) _ _ refl h in
       rw (alone, side-alone read-on (t .side) (t .next) alone)
 
-  item-handled : (i : Item) → let e = itemInPlace (p .sides) (p .reader .phase) (p .awaiting) next i in
+  item-handled : (i : Item) → let e = itemInPlace (p .sides) (p .reader .phase) (p .waits) next i in
       e .handled ≡ true → itemRead read-on i ≡ stepInPlace p e
   unfolding dataRead negotiationRead
   item-handled Nothing h = refl
@@ -73,13 +74,13 @@ read-in-place p b h =
     ∙ rw alone (item-handled p (m .phase) (m .item) (rw alone at h))
 
 -- a byte that is not handled does nothing
-module _ (sides : Sides) (phase : Phase) (awaiting : Bool) where
-  if-unhandled : (t : Bool) (x : InPlaceEffect) → (x .handled ≡ false → x ≡ unhandled sides phase awaiting)
-      → cond t x (unhandled sides phase awaiting) .handled ≡ false → cond t x (unhandled sides phase awaiting) ≡ unhandled sides phase awaiting
+module _ (sides : Sides) (phase : Phase) (waits : Waits) where
+  if-unhandled : (t : Bool) (x : InPlaceEffect) → (x .handled ≡ false → x ≡ unhandled sides phase waits)
+      → cond t x (unhandled sides phase waits) .handled ≡ false → cond t x (unhandled sides phase waits) ≡ unhandled sides phase waits
   if-unhandled true x f h = f h
   if-unhandled false x f h = refl
 
-  item-unhandled : (next : Phase) (i : Item) → itemInPlace sides phase awaiting next i .handled ≡ false → itemInPlace sides phase awaiting next i ≡ unhandled sides phase awaiting
+  item-unhandled : (next : Phase) (i : Item) → itemInPlace sides phase waits next i .handled ≡ false → itemInPlace sides phase waits next i ≡ unhandled sides phase waits
   item-unhandled next Nothing h = absurd (false≢true (sym h))
   item-unhandled next (Data b) h = absurd (false≢true (sym h))
   item-unhandled next (Negotiated v option) h =
@@ -87,33 +88,33 @@ module _ (sides : Sides) (phase : Phase) (awaiting : Bool) where
   item-unhandled next BodyEnd h = refl
   item-unhandled next StrayCommand h = refl
 
-  pub does-nothing : (b : ℕ) → inPlaceRead sides phase awaiting b .handled ≡ false → inPlaceRead sides phase awaiting b ≡ unhandled sides phase awaiting
+  pub does-nothing : (b : ℕ) → inPlaceRead sides phase waits b .handled ≡ false → inPlaceRead sides phase waits b ≡ unhandled sides phase waits
   unfolding inPlaceRead
   does-nothing b h =
       let m = phaseRead phase b in
       if-unhandled (m .alone) _ (item-unhandled (m .phase) (m .item)) h
 
 -- a byte that has room writes no more than that
-pub in-place-fits : (p : Bulletin) (b : ℕ) → let e = inPlaceRead (p .sides) (p .reader .phase) (p .awaiting) b in
+pub in-place-fits : (p : Bulletin) (b : ℕ) → let e = inPlaceRead (p .sides) (p .reader .phase) (p .waits) b in
     (length (e .host) ≤ paperRoom) × (length (e .wire) ≤ wireRoom)
 in-place-fits p b = go (e .handled) refl
   where
     e : InPlaceEffect
-    e = inPlaceRead (p .sides) (p .reader .phase) (p .awaiting) b
+    e = inPlaceRead (p .sides) (p .reader .phase) (p .waits) b
 
     go : (h : Bool) → e .handled ≡ h → (length (e .host) ≤ paperRoom) × (length (e .wire) ≤ wireRoom)
     go true h = rw (read-in-place p b h) at (byte-fits (viewBulletin p) b)
-    go false h = rw (does-nothing (p .sides) (p .reader .phase) (p .awaiting) b h) (omega arith, omega arith)
+    go false h = rw (does-nothing (p .sides) (p .reader .phase) (p .waits) b h) (omega arith, omega arith)
 
 -- the code's answers where nothing is written, and where a reply is
-module _ (handled : Bool) (sides : Sides) (phase : Phase) (awaiting : Bool) where
+module _ (handled : Bool) (sides : Sides) (phase : Phase) (waits : Waits) where
   abbrev on-wire : List ℕ → InPlaceEffect
-  on-wire bytes = record { handled = handled; sides = sides; phase = phase; awaiting = awaiting; host = []; wire = bytes }
+  on-wire bytes = record { handled = handled; sides = sides; phase = phase; waits = waits; host = []; wire = bytes }
 
-  pub met-reply : {bytes : List ℕ} {wire : Lent} {n : ℕ} → WroteAtStart bytes wire n → RefinesInPlaceOnWire (on-wire bytes) wire (answeredInPlace handled sides phase awaiting n)
+  pub met-reply : {bytes : List ℕ} {wire : Lent} {n : ℕ} → WroteAtStart bytes wire n → RefinesInPlaceOnWire (on-wire bytes) wire (answeredInPlace handled sides phase waits n)
   met-reply w = record {
-    met = λ host. record { handled = refl; sides = refl; phase = refl; awaiting = refl; wrote = record { paper = wrote-none host; wire = w } };
+    met = λ host. record { handled = refl; sides = refl; phase = refl; waits = refl; wrote = record { paper = wrote-none host; wire = w } };
   }
 
-  pub met-unwritten : {host wire : List ℕ} → RefinesInPlace (on-wire []) (untouched host) (untouched wire) (answeredInPlace handled sides phase awaiting 0)
+  pub met-unwritten : {host wire : List ℕ} → RefinesInPlace (on-wire []) (untouched host) (untouched wire) (answeredInPlace handled sides phase waits 0)
   met-unwritten {host} {wire} = met-reply (wrote-none wire) .met host

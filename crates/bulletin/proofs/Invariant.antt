@@ -1,13 +1,16 @@
 -- What every call of the bulletin end keeps. A property of its state that turns on the sides and the table alone is kept, if the
 -- steps that change these keep it.
 use mathlib.Core.Path.{_≡_, refl}
-use mathlib.Core.Bool.{Bool, false}
+use mathlib.Core.Bool.{Bool}
 use mathlib.Core.Logic.{⊎-elim}
 use mathlib.Core.List.{List, [], _∷_, List·Memᴰ, List·Memᴰ·not-nil, List·Memᴰ·cases-cons}
 use Prim.Native.Nat.{ℕ}
 use Rattle.lists.proofs.Lengths.{chosen}
 use Rattle.codes.specs.Answers.{Guard, guarded}
 use Rattle.codes.specs.Telnet.{DR}
+use Rattle.codes.specs.Dispositions.{dispositionNumbered}
+use Rattle.codes.specs.declared.Disposition.{Disposition}
+use Rattle.codes.proofs.Entries.{found-cases}
 use Rattle.codes.specs.declared.Verb.{Verb}
 use Rattle.negotiation.specs.declared.End.{End}
 use Rattle.negotiation.specs.declared.OptionState.{OptionState}
@@ -55,14 +58,14 @@ module _ (P : BulletinState → Type 0) (k : Steps P) where
     reply-kept ReplyBody.Unreadable = h
     reply-kept (ReplyBody.Readable r) = k .replies s r h
 
-    value-kept : (v : ValueBody) → Leaves (valueRead s v)
-    value-kept ValueBody.Unreadable = h
-    value-kept (ValueBody.Readable v) = k .others refl refl h
+    value-kept : (d : Disposition) (v : ValueBody) → Leaves (valueRead s d v)
+    value-kept d ValueBody.Unreadable = h
+    value-kept d (ValueBody.Readable v) = k .others refl refl h
 
     handled-kept : (body : List ℕ) (c : Checked) → Leaves (bodyHandled s body c)
     handled-kept body (Noted n) = h
     handled-kept body Checked.Rcte = h
-    handled-kept body Checked.Returns = value-kept (valueBody DR body)
+    handled-kept body (Checked.Disposes d) = value-kept d (valueBody d DR body)
     handled-kept body Checked.Macro = reply-kept (replyBody body)
 
     body-kept : (marred : Bool) (body : List ℕ) → Leaves (bodyRead s marred body)
@@ -104,7 +107,7 @@ module _ (P : BulletinState → Type 0) (k : Steps P) where
   call-kept s (network b a w) h = guarded-kept s h _ _ (λ n. network-kept s b h)
   call-kept s (ask o y w) h =
       guarded-kept s h _ _ (λ n. asked-kept s h o y)
-  call-kept s (suggest v w) h = guarded-kept s h _ _ (λ n. k .others refl refl h)
+  call-kept s (suggest o v w) h = guarded-kept s h _ _ (λ n. found-cases (λ (a : CallEffect). Leaves (a .effect)) h (λ d. guarded-kept s h _ _ (λ m. k .others refl refl h)) (dispositionNumbered o))
   call-kept s (order c bc tc w) h = guarded-kept s h _ _ (λ n. h)
   call-kept s (define x t w) h = guarded-kept s h _ _ (λ n. k .defines s x t w n h)
   call-kept s (useMacro x w) h = guarded-kept s h _ _ (λ n. h)

@@ -5,11 +5,11 @@ use Rattle.keys.specs.declared.Key.{Key}
 use Rattle.keys.specs.declared.Key.the-variants.{Char, Line, Command}
 use Rattle.keys.specs.Keys.{isCommand, keyWire}
 use Rattle.sent_macros.specs.Sending.{Definitions, allDataBytes}
-use Rattle.disposition.specs.declared.Handling.{Handling}
-use Rattle.disposition.specs.Returns.{itemData}
+use Rattle.disposition.specs.declared.Handlings.{Handlings}
+use Rattle.disposition.specs.ItemData.{itemData}
 use Rattle.bulletin.specs.Calls.{itemBytes}
 
-module _ (t : Definitions) (h : Handling) where
+module _ (t : Definitions) (h : Handlings) where
   pub command-bytes : (k : Key) → isCommand k ≡ true → itemBytes t h k ≡ keyWire k
   unfolding keyWire
   command-bytes (Char b) e = absurd (false≢true e)

@@ -13,3 +13,5 @@ pub mod InPlace
 pub mod ItemBytes
 pub mod Determined
 pub mod FreshBulletin
+pub mod Waiting
+pub mod WaitingCalls

@@ -6,13 +6,17 @@ use native.Mathlib.Omega.{arith}
 use lib.Dec.{eqb, lit≤}
 use Rattle.lists.proofs.Lengths.{chosen, either}
 use Rattle.codes.specs.Answers.{noRoom, noWire, guarded}
-use Rattle.codes.specs.Telnet.{IAC, NAOCRD, DR, DS}
+use Rattle.codes.specs.Telnet.{IAC, DR, DS}
+use Rattle.codes.specs.Dispositions.{dispositionNumbered, optionNumber}
+use Rattle.codes.specs.declared.Disposition.{Disposition}
+use Rattle.codes.proofs.Entries.{found-cases}
 use Rattle.codes.specs.declared.Note.{Note}
 use Rattle.codes.specs.declared.Verb.{Verb}
 use Rattle.keys.specs.Keys.{badCommand}
 use Rattle.negotiation.specs.declared.End.{End}
-use Rattle.negotiation.specs.declared.Side.the-variants.{Echo, BulletinSga, Rcte, Macro, PrinterSga, Returns, Uncarried}
-use Rattle.negotiation.specs.Carried.{replyBytes, heardBy, askedSide, askedWhose, askedEnable}
+use Rattle.negotiation.specs.declared.Side.the-variants.{Echo, BulletinSga, Rcte, Macro, PrinterSga, Disposes, Uncarried}
+use Rattle.disposition.specs.ByOption.{valuesOf, isWaiting}
+use Rattle.negotiation.specs.Carried.{replyBytes, dispositionInForce, heardBy, askedSide, askedWhose, askedEnable}
 use Rattle.reader.specs.declared.Item.{Item}
 use Rattle.reader.specs.declared.Item.the-variants.{Nothing, Data, Negotiated, BodyEnd, StrayCommand}
 use Rattle.reader.specs.Reading.{idle, read}
@@ -23,9 +27,9 @@ use Rattle.bodies.specs.declared.ValueBody.{ValueBody}
 use Rattle.bodies.specs.MacroBodies.{replyBody}
 use Rattle.bodies.specs.ValueBodies.{isBadValue, valueBody}
 use Rattle.sent_macros.specs.Sending.{Definitions, sentOf, isPending, isAccepted, isTooLong, definingBytes}
-use Rattle.bulletin.specs.State.{BulletinState, withReader, bmInForce, naocrdInForce, rcteInForce, handlingNow, definitionsNow, sends, nothing, notes, CallEffect}
+use Rattle.bulletin.specs.State.{BulletinState, withReader, bmInForce, rcteInForce, handlingsNow, definitionsNow, sends, nothing, notes, CallEffect}
 use Rattle.bulletin.specs.Network.{dataRead, sideMoved, negotiationRead, macroReplied, replyRead, valueRead, bodyHandled, bodyRead, itemRead, networkRead}
-use Rattle.bulletin.specs.Calls.{networkCall, askCall, suggestCall, badOrder, orderCall, defineCall, useCall, itemSent, textCall}
+use Rattle.bulletin.specs.Calls.{networkCall, askCall, suggestOf, suggestCall, badOrder, orderCall, defineCall, useCall, itemSent, textCall}
 use Rattle.bulletin.specs.Session.{network, ask, suggest, order, define, useMacro, text, called}
 use Rattle.bulletin.specs.Limits.{FitsWire, Fits, NetworkFits, MoveFits, SuggestionFits, OrderFits, DefineFits, ItemFits, CallFits}
 use Rattle.negotiation.proofs.Replies.{reply-long}
@@ -33,7 +37,7 @@ use Rattle.negotiation.proofs.Outcomes.{asked-cases}
 use Rattle.subnegotiation.specs.declared.Checked.{Checked}
 use Rattle.subnegotiation.specs.declared.Checked.the-variants.{Noted}
 use Rattle.subnegotiation.specs.Checks.{checked}
-use Rattle.bulletin.proofs.LimitsBytes.{frame-long, define-long, cancel-long, order-long, item-long, stored-long}
+use Rattle.bulletin.proofs.LimitsBytes.{frame-long, define-long, cancel-long, order-long, item-within, stored-long}
 
 sent : {bytes : List ℕ} {s : BulletinState} → FitsWire bytes → Fits (sends bytes s)
 sent l = record { host = lit≤ tt; wire = l }
@@ -44,7 +48,7 @@ noted = record { host = lit≤ tt; wire = lit≤ tt }
 pub move-fits : MoveFits
 unfolding sideMoved
 move-fits s Macro q reply l = sent (omega arith)
-move-fits s Returns q reply l = sent (omega arith)
+move-fits s (Disposes d) q reply l = sent (omega arith)
 move-fits s Rcte q reply l = sent (omega arith)
 move-fits s Echo q reply l = sent (omega arith)
 move-fits s BulletinSga q reply l = sent (omega arith)
@@ -68,14 +72,14 @@ module _ (s : BulletinState) where
   reply-fits ReplyBody.Unreadable = noted
   reply-fits (ReplyBody.Readable r) = replied-fits r
 
-  value-fits : (b : ValueBody) → Fits (valueRead s b)
-  value-fits ValueBody.Unreadable = noted
-  value-fits (ValueBody.Readable v) = sent (lit≤ tt)
+  value-fits : (d : Disposition) (b : ValueBody) → Fits (valueRead s d b)
+  value-fits d ValueBody.Unreadable = noted
+  value-fits d (ValueBody.Readable v) = sent (lit≤ tt)
 
   handled-fits : (body : List ℕ) (c : Checked) → Fits (bodyHandled s body c)
   handled-fits body (Noted n) = noted
   handled-fits body Checked.Rcte = noted
-  handled-fits body Checked.Returns = value-fits (valueBody DR body)
+  handled-fits body (Checked.Disposes d) = value-fits d (valueBody d DR body)
   handled-fits body Checked.Macro = reply-fits (replyBody body)
 
   body-fits : (marred : Bool) (body : List ℕ) → Fits (bodyRead s marred body)
@@ -95,7 +99,7 @@ unfolding networkRead
 network-fits s b = let r = read (s .reader) b in read-fits (withReader s (r .reader)) (r .item)
 
 pub suggestion-fits : SuggestionFits
-suggestion-fits v = omega (arith, frame-long (NAOCRD ∷ DS ∷ v ∷ []))
+suggestion-fits d v = omega (arith, frame-long (optionNumber d ∷ DS ∷ v ∷ []))
 
 pub order-fits : OrderFits
 order-fits cmd breaks sends = omega (arith, order-long cmd breaks sends)
@@ -109,7 +113,7 @@ defining-fits t x bytes = chosen FitsWire (isTooLong t x bytes) (λ e. lit≤ tt
 
 pub item-fits : ItemFits
 unfolding itemSent
-item-fits s k = sent (omega (arith, item-long (definitionsNow s) (handlingNow s) k))
+item-fits s k = sent (omega (arith, item-within (definitionsNow s) (handlingsNow s) k))
 
 abbrev Fitting : CallEffect → Type 0
 Fitting a = Fits (a .effect)
@@ -118,6 +122,13 @@ Fitting a = Fits (a .effect)
 refuses : (s : BulletinState) → Fits (nothing s)
 refuses s = sent (lit≤ tt)
 
+suggest-fits : (s : BulletinState) (v : ℕ) (d : Disposition) → Fitting (suggestOf s v d)
+unfolding guarded
+suggest-fits s v d =
+    either Fitting (not (dispositionInForce (s .sides) d)) (refuses s)
+    (either Fitting (isBadValue d v) (refuses s)
+    (either Fitting (eqb v (valuesOf (s .values) d .ds)) (refuses s) (sent (suggestion-fits d v))))
+
 pub call-fits : CallFits
 unfolding called networkCall askCall suggestCall orderCall defineCall useCall textCall guarded
 call-fits s (network b h w) = either Fitting (noRoom h w) (refuses s) (network-fits s b)
@@ -125,11 +136,7 @@ call-fits s (ask o y w) =
     let side = askedSide End.Bulletin o y in
     either Fitting (noWire w) (refuses s)
     (asked-cases Fitting (s .sides) side (askedEnable y) _ _ (λ c. refuses s) (λ q r n e. move-fits s side q (replyBytes (askedWhose y) r o) (reply-long (askedWhose y) r o)))
-call-fits s (suggest v w) =
-    either Fitting (noWire w) (refuses s)
-    (either Fitting (not (naocrdInForce s)) (refuses s)
-    (either Fitting (isBadValue v) (refuses s)
-    (either Fitting (eqb v (s .values .ds)) (refuses s) (sent (suggestion-fits v)))))
+call-fits s (suggest o v w) = either Fitting (noWire w) (refuses s) (found-cases Fitting (refuses s) (suggest-fits s v) (dispositionNumbered o))
 call-fits s (order c bc tc w) =
     either Fitting (noWire w) (refuses s)
     (either Fitting (not (rcteInForce s)) (refuses s)
@@ -143,9 +150,9 @@ call-fits s (define x t w) =
 call-fits s (useMacro x w) =
     either Fitting (noWire w) (refuses s)
     (either Fitting (not (bmInForce s)) (refuses s)
-    (either Fitting (s .awaiting) (refuses s)
+    (either Fitting (isWaiting (s .waits)) (refuses s)
     (either Fitting (not (isAccepted (sentOf (s .table) x))) (refuses s) (sent (lit≤ tt)))))
 call-fits s (text k w) =
     either Fitting (noWire w) (refuses s)
     (either Fitting (badCommand k) (refuses s)
-    (either Fitting (s .awaiting) (refuses s) (item-fits s k)))
+    (either Fitting (isWaiting (s .waits)) (refuses s) (item-fits s k)))

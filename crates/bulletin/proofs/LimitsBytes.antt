@@ -4,24 +4,21 @@ use mathlib.Core.Bool.{Bool, true, false, _||_, cond}
 use mathlib.Core.List.{List, [], _∷_, _++_, flatMap}
 use Prim.Native.Nat.{ℕ, _+_, _*_, _≤_}
 use native.Mathlib.Omega.{arith}
-use borrow.Author.Tests.{ltb-false, leb-true}
-use lib.Dec.{ltb, leb, eqb, lit≤}
-use lib.ListN.{length, length-append, length-replicate}
-use Rattle.lists.specs.Choice.{between}
-use Rattle.lists.proofs.Lengths.{chosen, either, flatMap-within}
-use Rattle.lists.proofs.Tables.{both-right}
+use borrow.Author.Tests.{ltb-false}
+use lib.Dec.{ltb, eqb, lit≤}
+use lib.ListN.{length, length-append}
+use Rattle.lists.proofs.Lengths.{flatMap-within}
 use Rattle.codes.specs.Telnet.{IAC, BM, DEFINE}
-use Rattle.keys.specs.declared.Key.{Key}
 use Rattle.keys.specs.declared.Key.the-variants.{Char, Line, Command}
 use Rattle.wire.specs.Frames.{coded, doubled, frame}
 use Rattle.wire.proofs.Coded.{coded-long}
 use Rattle.received_macros.specs.Texts.{textRoom}
 use Rattle.bodies.specs.RcteBodies.{setsBreaks, setsSends}
 use Rattle.sent_macros.specs.Sending.{Definitions, sentOf, isFree, stored, storedRoom, sentTotal, defining, isTooLong, defineBytes, dataBytes}
-use Rattle.disposition.specs.declared.Handling.{Handling}
-use Rattle.disposition.specs.declared.Handling.the-variants.{Sender, Receiver}
-use Rattle.disposition.specs.Returns.{padded, lineBytes, returnBytes, itemData}
-use Rattle.bulletin.specs.Calls.{pairBytes, orderBody, orderBytes, itemBytes}
+use Rattle.disposition.specs.ItemData.{itemData}
+use Rattle.disposition.proofs.ItemLengths.{item-data-fits}
+use Rattle.bulletin.specs.Calls.{pairBytes, orderBody, orderBytes}
+use Rattle.bulletin.specs.Limits.{ItemWithin}
 
 doubled-long : (bs : List ℕ) → length (doubled bs) ≤ 2 * length bs
 doubled-long bs = flatMap-within coded 2 coded-long bs
@@ -51,31 +48,6 @@ pub order-long : (cmd breaks sends : ℕ) → length (orderBytes cmd breaks send
 unfolding orderBytes
 order-long cmd breaks sends = omega (arith, frame-long (orderBody cmd breaks sends), body-long cmd breaks sends)
 
--- at most 250 NULs behind a carriage return
-abbrev pub Padded : List ℕ → Type 0
-Padded bytes = length bytes ≤ 252
-
-padded-long : (n a b : ℕ) → Padded (padded n (a ∷ b ∷ []))
-unfolding padded
-padded-long n a b =
-    chosen Padded (between 1 250 n)
-    (λ e. simp length-replicate (omega (arith, leb-true n 250 (both-right (leb 1 n) (leb n 250) e))))
-    (λ e. lit≤ tt)
-
-line-long : (h : Handling) → Padded (lineBytes h)
-line-long (Sender n) = either Padded (eqb n 252) (lit≤ tt) (padded-long n 13 10)
-line-long (Receiver n) = lit≤ tt
-
-return-long : (h : Handling) → Padded (returnBytes h)
-return-long (Sender n) = either Padded (eqb n 252) (lit≤ tt) (padded-long n 13 0)
-return-long (Receiver n) = lit≤ tt
-
-pub data-long : (h : Handling) (k : Key) → Padded (itemData h k)
-unfolding itemData
-data-long h (Char b) = either Padded (eqb b 13) (return-long h) (lit≤ tt)
-data-long h Line = line-long h
-data-long h (Command c) = lit≤ tt
-
 -- a LITERAL is seven bytes, and 255 is none
 byte-long : (t : Definitions) (b : ℕ) → length (dataBytes t b) ≤ 7
 unfolding dataBytes coded frame flatMap
@@ -86,10 +58,10 @@ byte-long t b = go (eqb b IAC) (isFree (sentOf t b))
     go false true = lit≤ tt
     go false false = lit≤ tt
 
-pub item-long : (t : Definitions) (h : Handling) (k : Key) → length (itemBytes t h k) ≤ 1764
-item-long t h (Char b) = omega (arith, flatMap-within (dataBytes t) 7 (byte-long t) (itemData h (Char b)), data-long h (Char b))
-item-long t h Line = omega (arith, flatMap-within (dataBytes t) 7 (byte-long t) (itemData h Line), data-long h Line)
-item-long t h (Command c) = lit≤ tt
+pub item-within : ItemWithin
+item-within t h (Char b) = omega (arith, flatMap-within (dataBytes t) 7 (byte-long t) (itemData h (Char b)), item-data-fits h (Char b))
+item-within t h Line = omega (arith, flatMap-within (dataBytes t) 7 (byte-long t) (itemData h Line), item-data-fits h Line)
+item-within t h (Command c) = lit≤ tt
 
 -- a text that is not too long
 pub stored-long : (t : Definitions) (x : ℕ) (text : List ℕ) → isTooLong t x text ≡ false → length (stored text) ≤ storedRoom

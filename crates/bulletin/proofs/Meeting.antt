@@ -7,11 +7,12 @@ use Rattle.lists.specs.Buffers.{Lent, WroteAtStart}
 use Rattle.lists.proofs.Starts.{wrote-none}
 use Rattle.codes.specs.declared.Note.{Note}
 use Rattle.negotiation.specs.declared.Sides.{Sides}
+use Rattle.disposition.specs.declared.Waits.{Waits}
 use Rattle.sent_macros.specs.declared.SendingTable.{SendingTable}
 use Rattle.sent_macros.specs.Sending.{Definitions}
 use Rattle.sent_macros.specs.Refinement.{RefinesTable}
 use Rattle.bulletin.specs.declared.Bulletin.{Bulletin}
-use Rattle.bulletin.specs.State.{BulletinState, withSides, withTable, withAwaiting, notes}
+use Rattle.bulletin.specs.State.{BulletinState, withSides, withTable, withWaits, notes}
 use Rattle.bulletin.specs.Refinement.{viewBulletin, RefinesStepOnWire, RefinesStepUnwritten, RefinesState, stepOf, tableSet}
 
 pub met-same : {b : Bulletin} → RefinesState (viewBulletin b) b b
@@ -28,14 +29,14 @@ module _ (n : Note) {s : BulletinState} {b t : Bulletin} (state : RefinesState s
   met-unwritten = record { met = λ wire. met-step (wrote-none wire) }
 
 -- nothing but the sides changed
-pub met-sides : {b : Bulletin} (x : Sides) → RefinesState (withSides (viewBulletin b) x) b (record { sides = x; reader = b .reader; table = b .table; values = b .values; awaiting = b .awaiting })
+pub met-sides : {b : Bulletin} (x : Sides) → RefinesState (withSides (viewBulletin b) x) b (record { sides = x; reader = b .reader; table = b .table; values = b .values; waits = b .waits })
 met-sides x = record { view = refl; clean = λ k. record { reader = k .reader; table = k .table } }
 
 -- .. the table
 pub met-table : {b : Bulletin} {t : SendingTable} {d : Definitions} {acts : Bool} → RefinesTable d acts (b .table) t → RefinesState (withTable (viewBulletin b) d) b (tableSet b t)
 met-table m = record { view = rw (m .view); clean = λ k. record { reader = k .reader; table = m .clean (k .table) } }
 
--- .. the wait
-pub met-awaiting : {b : Bulletin} (x : Bool)
-    → RefinesState (withAwaiting (viewBulletin b) x) b (record { sides = b .sides; reader = b .reader; table = b .table; values = b .values; awaiting = x })
-met-awaiting x = record { view = refl; clean = λ k. record { reader = k .reader; table = k .table } }
+-- .. the waits
+pub met-waits : {b : Bulletin} (x : Waits)
+    → RefinesState (withWaits (viewBulletin b) x) b (record { sides = b .sides; reader = b .reader; table = b .table; values = b .values; waits = x })
+met-waits x = record { view = refl; clean = λ k. record { reader = k .reader; table = k .table } }

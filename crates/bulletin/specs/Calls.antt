@@ -5,7 +5,9 @@ use Prim.Native.Nat.{ℕ, _/_, _%_}
 use lib.Dec.{leb, eqb}
 use Rattle.codes.specs.Answers.{noRoom, noWire, Guard, refusedIf, guarded}
 use Rattle.codes.specs.Telnet.{RCTE, DS, IAC}
-use Rattle.codes.specs.declared.Code.the-variants.{NoRoom, BadCommand, NotInForce, BadMacroByte, TooLong, Unanswered, NoText, BadValue, OutputWaits}
+use Rattle.codes.specs.Dispositions.{dispositionNumbered, ofDisposition, forEach}
+use Rattle.codes.specs.declared.Disposition.{Disposition}
+use Rattle.codes.specs.declared.Code.the-variants.{NoRoom, BadCommand, NotCarried, NotInForce, BadMacroByte, TooLong, Unanswered, NoText, BadValue, OutputWaits}
 use Rattle.codes.specs.declared.Whose.{Whose}
 use Rattle.keys.specs.declared.Key.{Key}
 use Rattle.keys.specs.declared.Key.the-variants.{Char, Line, Command}
@@ -13,15 +15,18 @@ use Rattle.keys.specs.Keys.{badCommand}
 use Rattle.wire.specs.Frames.{frame, command}
 use Rattle.negotiation.specs.declared.End.{End}
 use Rattle.negotiation.specs.declared.Side.{Side}
-use Rattle.negotiation.specs.Carried.{replyBytes, askedSide, askedWhose, askedEnable, askingOf, askedBy}
+use Rattle.negotiation.specs.Carried.{replyBytes, dispositionInForce, askedSide, askedWhose, askedEnable, askingOf, askedBy}
 use Rattle.bodies.specs.RcteBodies.{setsBreaks, setsSends}
 use Rattle.sent_macros.specs.Sending.{Definitions, sentOf, isPending, isAccepted, isTooLong, defining, defineBytes, allDataBytes, acceptedText, statusOf}
 use Rattle.sent_macros.specs.declared.Status.{Status}
-use Rattle.disposition.specs.declared.Handling.{Handling}
-use Rattle.disposition.specs.Returns.{withDs, suggestion, suggestGuards, itemData, awaits, isReturn, Report, reportOf}
+use Rattle.disposition.specs.declared.Waits.{Waits}
+use Rattle.disposition.specs.declared.Handlings.{Handlings}
+use Rattle.disposition.specs.ByOption.{withDs, valuesOf, waitOf, isWaiting, waitsFrom, handlingOf}
+use Rattle.disposition.specs.Handled.{suggestion, suggestGuards, Report, reportsOf}
+use Rattle.disposition.specs.ItemData.{itemData, takesPart, awaits}
 use Rattle.bulletin.specs.declared.Output.{Output}
 use Rattle.bulletin.specs.declared.Output.the-variants.{Ready, Waiting}
-use Rattle.bulletin.specs.State.{BulletinState, withTable, withValues, withAwaiting, rcteInForce, bmInForce, naocrdInForce, handlingNow, definitionsNow, Effect, sends, CallEffect, done, refused}
+use Rattle.bulletin.specs.State.{BulletinState, withTable, withValues, withWaits, rcteInForce, bmInForce, handlingsNow, definitionsNow, Effect, sends, CallEffect, done, refused}
 use Rattle.bulletin.specs.Network.{networkRead, sideMoved}
 
 unfoldable pub networkCall : BulletinState → ℕ → ℕ → ℕ → CallEffect
@@ -37,10 +42,16 @@ askCall s option way wire =
     (askOf s option (askedWhose way) (askedSide End.Bulletin option way) (askedEnable way))
 
 -- DS, suggested by the bulletin end; the value that counts is its own
-unfoldable pub suggestCall : BulletinState → ℕ → ℕ → CallEffect
-suggestCall s v wire =
-    guarded (refusedIf (noWire wire) NoRoom ∷ suggestGuards (naocrdInForce s) (s .values .ds) v) (refused s)
-    (done (sends (suggestion DS v) (withValues s (withDs (s .values) v))))
+abbrev pub suggestOf : BulletinState → ℕ → Disposition → CallEffect
+suggestOf s v d =
+    let values = valuesOf (s .values) d in
+    guarded (suggestGuards d (dispositionInForce (s .sides) d) (values .ds) v) (refused s)
+    (done (sends (suggestion d DS v) (withValues s d (withDs values v))))
+
+unfoldable pub suggestCall : BulletinState → ℕ → ℕ → ℕ → CallEffect
+suggestCall s option v wire =
+    guarded (refusedIf (noWire wire) NoRoom ∷ []) (refused s)
+    (ofDisposition (refused s NotCarried) (suggestOf s v) (dispositionNumbered option))
 
 -- an order's cmd is 0, or odd and at most 31
 abbrev pub badOrder : ℕ → Bool
@@ -86,7 +97,7 @@ abbrev pub useGuards : BulletinState → ℕ → ℕ → List Guard
 useGuards s x wire =
     refusedIf (noWire wire) NoRoom
     ∷ refusedIf (not (bmInForce s)) NotInForce
-    ∷ refusedIf (s .awaiting) OutputWaits
+    ∷ refusedIf (isWaiting (s .waits)) OutputWaits
     ∷ refusedIf (not (isAccepted (sentOf (s .table) x))) NoText
     ∷ []
 
@@ -95,37 +106,41 @@ unfoldable pub useCall : BulletinState → ℕ → ℕ → CallEffect
 useCall s x wire = guarded (useGuards s x wire) (refused s) (done (sends (x ∷ []) s))
 
 -- the bytes of an item: its data, byte by byte; a Command as it is
-abbrev pub itemBytes : Definitions → Handling → Key → List ℕ
+abbrev pub itemBytes : Definitions → Handlings → Key → List ℕ
 itemBytes t h (Char b) = allDataBytes t (itemData h (Char b))
 itemBytes t h Line = allDataBytes t (itemData h Line)
 itemBytes t h (Command c) = command c
 
--- output waits behind a carriage return that is sent with 254 in force
-abbrev pub waitsAfter : BulletinState → Key → Bool
-waitsAfter s k = s .awaiting || (isReturn k && awaits (handlingNow s))
+-- each option that takes part in the item, its outcome being the sender's 254, waits behind it
+abbrev pub waitAfter : Waits → Handlings → Key → Disposition → Bool
+waitAfter w h k d = waitOf w d || (takesPart k d && awaits (handlingOf h d))
+
+abbrev pub waitsAfter : BulletinState → Key → Waits
+waitsAfter s k = waitsFrom (forEach (waitAfter (s .waits) (handlingsNow s) k))
 
 unfoldable pub itemSent : BulletinState → Key → Effect
-itemSent s k = sends (itemBytes (definitionsNow s) (handlingNow s) k) (withAwaiting s (waitsAfter s k))
+itemSent s k = sends (itemBytes (definitionsNow s) (handlingsNow s) k) (withWaits s (waitsAfter s k))
 
 abbrev pub textGuards : BulletinState → Key → ℕ → List Guard
-textGuards s k wire = refusedIf (noWire wire) NoRoom ∷ refusedIf (badCommand k) BadCommand ∷ refusedIf (s .awaiting) OutputWaits ∷ []
+textGuards s k wire = refusedIf (noWire wire) NoRoom ∷ refusedIf (badCommand k) BadCommand ∷ refusedIf (isWaiting (s .waits)) OutputWaits ∷ []
 
 unfoldable pub textCall : BulletinState → Key → ℕ → CallEffect
 textCall s k wire = guarded (textGuards s k wire) (refused s) (done (itemSent s k))
 
 -- the data that a text item and a use of a macro stand for
 unfoldable pub textData : BulletinState → Key → List ℕ
-textData s k = itemData (handlingNow s) k
+textData s k = itemData (handlingsNow s) k
 
 unfoldable pub useData : BulletinState → ℕ → List ℕ
 useData s x = acceptedText (sentOf (s .table) x)
 
--- what a host may ask before it sends: how a macro byte stands, who handles carriage returns and how, whether output waits
+-- what a host may ask before it sends: how a macro byte stands, of each option about output disposition who handles its character
+-- and how, whether output waits
 abbrev pub macroStatus : BulletinState → ℕ → Status
 macroStatus s x = statusOf (sentOf (definitionsNow s) x)
 
-abbrev pub returnsReport : BulletinState → Report
-returnsReport s = reportOf (handlingNow s)
+abbrev pub dispositionsReport : BulletinState → List Report
+dispositionsReport s = reportsOf (handlingsNow s)
 
 abbrev pub outputNow : BulletinState → Output
-outputNow s = cond (s .awaiting) Waiting Ready
+outputNow s = cond (isWaiting (s .waits)) Waiting Ready

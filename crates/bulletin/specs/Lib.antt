@@ -11,3 +11,4 @@ pub mod RefinementOfRuns
 pub mod InPlace
 pub mod EmptyTable
 pub mod Determined
+pub mod Waiting

@@ -9,11 +9,13 @@ use Rattle.codes.specs.Telnet.{DS}
 use Rattle.keys.specs.declared.Key.{Key}
 use Rattle.negotiation.specs.declared.OptionState.{OptionState}
 use Rattle.negotiation.specs.declared.Side.{Side}
-use Rattle.disposition.specs.Returns.{suggestion}
+use Rattle.codes.specs.declared.Disposition.{Disposition}
+use Rattle.disposition.specs.declared.Handlings.{Handlings}
+use Rattle.disposition.specs.Handled.{suggestion}
 use Rattle.sent_macros.specs.Sending.{Definitions, isTooLong, defineBytes}
 use Rattle.bulletin.specs.State.{BulletinState, Effect}
 use Rattle.bulletin.specs.Network.{sideMoved, networkRead}
-use Rattle.bulletin.specs.Calls.{orderBytes, itemSent}
+use Rattle.bulletin.specs.Calls.{orderBytes, itemBytes, itemSent}
 use Rattle.bulletin.specs.Session.{Call, called}
 
 -- what a step writes fits buffers of the sizes that code 1 asks for
@@ -34,7 +36,7 @@ MoveFits = (s : BulletinState) (side : Side) (q : OptionState) (reply : List ℕ
 
 -- A part of CallFits: a suggestion. Assumed, promised and ruled out as there.
 abbrev pub SuggestionFits : Type 0
-SuggestionFits = (v : ℕ) → FitsWire (suggestion DS v)
+SuggestionFits = (d : Disposition) (v : ℕ) → FitsWire (suggestion d DS v)
 
 -- A part of CallFits: an order. Assumed, promised and ruled out as there.
 abbrev pub OrderFits : Type 0
@@ -43,6 +45,15 @@ OrderFits = (cmd breaks sends : ℕ) → FitsWire (orderBytes cmd breaks sends)
 -- A part of CallFits: a DEFINE that code 8 does not refuse. Assumed, promised and ruled out as there.
 abbrev pub DefineFits : Type 0
 DefineFits = (t : Definitions) (x : ℕ) (text : List ℕ) → isTooLong t x text ≡ false → FitsWire (defineBytes x text)
+
+-- the most bytes of an item: 502 of data, each as LITERAL
+abbrev pub itemWireRoom : ℕ
+itemWireRoom = 3514
+
+-- Assumed: any table, any handling and any item. Promised: it goes out in at most 3,514 bytes. Ruled out: NULs for
+-- each option that are added to more than a Line; a LITERAL of more than seven bytes.
+abbrev pub ItemWithin : Type 0
+ItemWithin = (t : Definitions) (h : Handlings) (k : Key) → length (itemBytes t h k) ≤ itemWireRoom
 
 -- A part of CallFits: a text item. Assumed, promised and ruled out as there.
 abbrev pub ItemFits : Type 0

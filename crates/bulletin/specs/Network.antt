@@ -1,15 +1,16 @@
 -- A network byte at the bulletin end.
-use mathlib.Core.Bool.{Bool, false, cond}
+use mathlib.Core.Bool.{Bool, cond}
 use mathlib.Core.List.{List, [], _∷_}
 use Prim.Native.Nat.{ℕ}
 use lib.ListN.{set}
 use Rattle.codes.specs.Telnet.{DR}
+use Rattle.codes.specs.declared.Disposition.{Disposition}
 use Rattle.codes.specs.declared.Note.the-variants.{Clear, Unreadable, OtherOption, Stray}
 use Rattle.codes.specs.declared.Verb.{Verb}
 use Rattle.negotiation.specs.declared.End.{End}
 use Rattle.negotiation.specs.declared.OptionState.{OptionState}
 use Rattle.negotiation.specs.declared.Side.{Side}
-use Rattle.negotiation.specs.declared.Side.the-variants.{Echo, BulletinSga, Rcte, Macro, PrinterSga, Returns, Uncarried}
+use Rattle.negotiation.specs.declared.Side.the-variants.{Echo, BulletinSga, Rcte, Macro, PrinterSga, Disposes, Uncarried}
 use Rattle.negotiation.specs.Table.{isYes}
 use Rattle.negotiation.specs.Carried.{moved, replyBytes, heardBy}
 use Rattle.reader.specs.declared.Item.{Item}
@@ -21,20 +22,20 @@ use Rattle.bodies.specs.declared.ValueBody.{ValueBody}
 use Rattle.bodies.specs.MacroBodies.{replyBody}
 use Rattle.bodies.specs.ValueBodies.{valueBody}
 use Rattle.sent_macros.specs.Sending.{noDefinitions, sentOf, onAccept, onRefuse, cancelBytes, cancelled}
-use Rattle.disposition.specs.Returns.{unspoken, withDr}
+use Rattle.disposition.specs.ByOption.{unspoken, withDr, valuesOf, noWaits}
 use Rattle.subnegotiation.specs.declared.Checked.{Checked}
 use Rattle.subnegotiation.specs.declared.Checked.the-variants.{Noted}
 use Rattle.subnegotiation.specs.Checks.{checked}
-use Rattle.bulletin.specs.State.{BulletinState, withSides, withReader, withTable, withValues, withAwaiting, Effect, sends, nothing, notes}
+use Rattle.bulletin.specs.State.{BulletinState, withSides, withReader, withTable, withValues, withWaits, Effect, sends, nothing, notes}
 
--- data goes to the host, and ends a wait
+-- data goes to the host, and ends every wait
 unfoldable pub dataRead : BulletinState → ℕ → Effect
-dataRead s b = record { note = Clear; host = b ∷ []; wire = []; state = withAwaiting s false }
+dataRead s b = record { note = Clear; host = b ∷ []; wire = []; state = withWaits s noWaits }
 
--- a side's state changed: leaving YES empties BM's table, and forgets NAOCRD's values
+-- a side's state changed: leaving YES empties BM's table, and forgets the two values of an option about output disposition
 abbrev pub sideState : BulletinState → Side → OptionState → BulletinState
 sideState s Macro q = withTable (withSides s (moved (s .sides) Macro q)) (cond (isYes q) (s .table) noDefinitions)
-sideState s Returns q = withValues (withSides s (moved (s .sides) Returns q)) (cond (isYes q) (s .values) unspoken)
+sideState s (Disposes d) q = withValues (withSides s (moved (s .sides) (Disposes d) q)) d (cond (isYes q) (valuesOf (s .values) d) unspoken)
 sideState s Rcte q = withSides s (moved (s .sides) Rcte q)
 sideState s Echo q = withSides s (moved (s .sides) Echo q)
 sideState s BulletinSga q = withSides s (moved (s .sides) BulletinSga q)
@@ -59,15 +60,15 @@ abbrev pub replyRead : BulletinState → ReplyBody → Effect
 replyRead s ReplyBody.Unreadable = notes Unreadable s
 replyRead s (ReplyBody.Readable r) = macroReplied s r
 
-abbrev pub valueRead : BulletinState → ValueBody → Effect
-valueRead s ValueBody.Unreadable = notes Unreadable s
-valueRead s (ValueBody.Readable v) = nothing (withValues s (withDr (s .values) v))
+abbrev pub valueRead : BulletinState → Disposition → ValueBody → Effect
+valueRead s d ValueBody.Unreadable = notes Unreadable s
+valueRead s d (ValueBody.Readable v) = nothing (withValues s d (withDr (valuesOf (s .values) d) v))
 
 -- a body by its option, or the note that ends its handling; one of RCTE is never given to this end
 abbrev pub bodyHandled : BulletinState → List ℕ → Checked → Effect
 bodyHandled s body (Noted n) = notes n s
 bodyHandled s body Checked.Rcte = notes OtherOption s
-bodyHandled s body Checked.Returns = valueRead s (valueBody DR body)
+bodyHandled s body (Checked.Disposes d) = valueRead s d (valueBody d DR body)
 bodyHandled s body Checked.Macro = replyRead s (replyBody body)
 
 unfoldable pub bodyRead : BulletinState → Bool → List ℕ → Effect

@@ -1,6 +1,5 @@
 -- The bulletin end as the code keeps it: its view, its clean cells, and how a step and an answer of the code meet the rules.
 use mathlib.Core.Path.{_≡_}
-use mathlib.Core.Bool.{false}
 use mathlib.Core.List.{List}
 use Prim.Native.Nat.{ℕ}
 use lib.ListN.{length}
@@ -17,7 +16,7 @@ use Rattle.reader.specs.Reading.{bodyRoom}
 use Rattle.reader.specs.Refinement.{viewReader, CleanReader, idleCells}
 use Rattle.sent_macros.specs.declared.SendingTable.{SendingTable}
 use Rattle.sent_macros.specs.Refinement.{viewTable, CleanTable, WholeTable, freeCells}
-use Rattle.disposition.specs.Returns.{unspoken}
+use Rattle.disposition.specs.ByOption.{allUnspoken, noWaits}
 use Rattle.bulletin.specs.declared.Bulletin.{Bulletin}
 use Rattle.bulletin.specs.declared.Step.{Step}
 use Rattle.bulletin.specs.declared.Answer.{Answer}
@@ -25,7 +24,7 @@ use Rattle.bulletin.specs.State.{BulletinState, Effect, CallEffect}
 use Rattle.bulletin.specs.Network.{itemRead}
 
 abbrev pub viewBulletin : Bulletin → BulletinState
-viewBulletin b = record { sides = b .sides; reader = viewReader (b .reader); table = viewTable (b .table); values = b .values; awaiting = b .awaiting }
+viewBulletin b = record { sides = b .sides; reader = viewReader (b .reader); table = viewTable (b .table); values = b .values; waits = b .waits }
 
 pub record CleanBulletin (b : Bulletin) : Type 0 where
   pub reader : CleanReader (b .reader)
@@ -91,10 +90,10 @@ stepOf n wire b = record { note = n; host = 0; wire = wire; state = b }
 
 -- the sides of the code's state after one of them moved
 abbrev pub sidesMoved : Bulletin → Side → OptionState → Bulletin
-sidesMoved b side q = record { sides = moved (b .sides) side q; reader = b .reader; table = b .table; values = b .values; awaiting = b .awaiting }
+sidesMoved b side q = record { sides = moved (b .sides) side q; reader = b .reader; table = b .table; values = b .values; waits = b .waits }
 
 abbrev pub tableSet : Bulletin → SendingTable → Bulletin
-tableSet b t = record { sides = b .sides; reader = b .reader; table = t; values = b .values; awaiting = b .awaiting }
+tableSet b t = record { sides = b .sides; reader = b .reader; table = t; values = b .values; waits = b .waits }
 
 -- the state that a step leaves
 pub record RefinesState (s : BulletinState) (b r : Bulletin) : Type 0 where
@@ -107,4 +106,4 @@ bodyEndRead s = itemRead s BodyEnd
 
 -- the bulletin end at first, as the code makes it
 abbrev pub freshCells : Bulletin
-freshCells = record { sides = allNo; reader = idleCells; table = freeCells; values = unspoken; awaiting = false }
+freshCells = record { sides = allNo; reader = idleCells; table = freeCells; values = allUnspoken; waits = noWaits }

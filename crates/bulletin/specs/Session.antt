@@ -9,7 +9,7 @@ use Rattle.bulletin.specs.Calls.{networkCall, askCall, suggestCall, orde
 pub data Call : Type 0 where
   network : (byte host wire : ℕ) → Call
   ask : (option way wire : ℕ) → Call
-  suggest : (value wire : ℕ) → Call
+  suggest : (option value wire : ℕ) → Call
   order : (cmd breaks sends wire : ℕ) → Call
   define : (byte : ℕ) → List ℕ → (wire : ℕ) → Call
   useMacro : (byte wire : ℕ) → Call
@@ -18,7 +18,7 @@ pub data Call : Type 0 where
 unfoldable pub called : BulletinState → Call → CallEffect
 called s (network b h w) = networkCall s b h w
 called s (ask o y w) = askCall s o y w
-called s (suggest v w) = suggestCall s v w
+called s (suggest o v w) = suggestCall s o v w
 called s (order c bc tc w) = orderCall s c bc tc w
 called s (define x t w) = defineCall s x t w
 called s (useMacro x w) = useCall s x w

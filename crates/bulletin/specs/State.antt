@@ -1,9 +1,10 @@
 -- The bulletin end's state, and what a step of it does.
-use mathlib.Core.Bool.{Bool, false, _&&_, cond}
+use mathlib.Core.Bool.{Bool, _&&_, cond}
 use mathlib.Core.List.{List, []}
 use Prim.Native.Nat.{ℕ}
 use Rattle.codes.specs.declared.Code.{Code}
 use Rattle.codes.specs.declared.Code.the-variants.{Done}
+use Rattle.codes.specs.declared.Disposition.{Disposition}
 use Rattle.codes.specs.declared.Note.{Note}
 use Rattle.codes.specs.declared.Note.the-variants.{Clear}
 use Rattle.negotiation.specs.declared.Sides.{Sides}
@@ -12,35 +13,45 @@ use Rattle.negotiation.specs.Carried.{allNo}
 use Rattle.reader.specs.Reading.{ReaderState, idle}
 use Rattle.sent_macros.specs.Sending.{Definitions, noDefinitions}
 use Rattle.disposition.specs.declared.Values.{Values}
-use Rattle.disposition.specs.declared.Handling.{Handling}
-use Rattle.disposition.specs.Returns.{unspoken, handling, handlingWhile, awaits}
+use Rattle.disposition.specs.declared.AllValues.{AllValues}
+use Rattle.disposition.specs.declared.Waits.{Waits}
+use Rattle.disposition.specs.declared.Handlings.{Handlings}
+use Rattle.disposition.specs.ByOption.{allUnspoken, withValuesOf, noWaits, waitOf, withWaitOf}
+use Rattle.disposition.specs.Handled.{handling, handlingsIn}
+use Rattle.disposition.specs.ItemData.{awaits}
 
--- awaiting: output waits (NAOCRD 254)
+-- waits: for which options output waits (254)
 pub record BulletinState : Type 0 where
   pub sides : Sides
   pub reader : ReaderState
   pub table : Definitions
-  pub values : Values
-  pub awaiting : Bool
+  pub values : AllValues
+  pub waits : Waits
 
 abbrev pub fresh : BulletinState
-fresh = record { sides = allNo; reader = idle; table = noDefinitions; values = unspoken; awaiting = false }
+fresh = record { sides = allNo; reader = idle; table = noDefinitions; values = allUnspoken; waits = noWaits }
 
 abbrev pub withSides : BulletinState → Sides → BulletinState
-withSides s x = record { sides = x; reader = s .reader; table = s .table; values = s .values; awaiting = s .awaiting }
+withSides s x = record { sides = x; reader = s .reader; table = s .table; values = s .values; waits = s .waits }
 
 abbrev pub withReader : BulletinState → ReaderState → BulletinState
-withReader s x = record { sides = s .sides; reader = x; table = s .table; values = s .values; awaiting = s .awaiting }
+withReader s x = record { sides = s .sides; reader = x; table = s .table; values = s .values; waits = s .waits }
 
 abbrev pub withTable : BulletinState → Definitions → BulletinState
-withTable s x = record { sides = s .sides; reader = s .reader; table = x; values = s .values; awaiting = s .awaiting }
+withTable s x = record { sides = s .sides; reader = s .reader; table = x; values = s .values; waits = s .waits }
 
-abbrev pub withAwaiting : BulletinState → Bool → BulletinState
-withAwaiting s x = record { sides = s .sides; reader = s .reader; table = s .table; values = s .values; awaiting = x }
+abbrev pub withWaits : BulletinState → Waits → BulletinState
+withWaits s x = record { sides = s .sides; reader = s .reader; table = s .table; values = s .values; waits = x }
 
--- a wait lasts while the outcome stays the sender's 254
-abbrev pub withValues : BulletinState → Values → BulletinState
-withValues s x = record { sides = s .sides; reader = s .reader; table = s .table; values = x; awaiting = s .awaiting && awaits (handling x) }
+-- the values of one option; its wait, and no other, lasts while its outcome stays the sender's 254
+abbrev pub withValues : BulletinState → Disposition → Values → BulletinState
+withValues s d x = record {
+  sides = s .sides;
+  reader = s .reader;
+  table = s .table;
+  values = withValuesOf (s .values) d x;
+  waits = withWaitOf (s .waits) d (waitOf (s .waits) d && awaits (handling x));
+}
 
 -- in force means YES
 abbrev pub rcteInForce : BulletinState → Bool
@@ -49,11 +60,8 @@ rcteInForce s = isYes (s .sides .rcte)
 abbrev pub bmInForce : BulletinState → Bool
 bmInForce s = isYes (s .sides .bm)
 
-abbrev pub naocrdInForce : BulletinState → Bool
-naocrdInForce s = isYes (s .sides .naocrd)
-
-abbrev pub handlingNow : BulletinState → Handling
-handlingNow s = handlingWhile (naocrdInForce s) (s .values)
+abbrev pub handlingsNow : BulletinState → Handlings
+handlingsNow s = handlingsIn (s .sides) (s .values)
 
 -- bytes that BM does not stand for are sent as they are when it is not in force
 abbrev pub definitionsNow : BulletinState → Definitions

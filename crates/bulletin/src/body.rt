@@ -12,20 +12,21 @@ use bodies::MacroReply;
 use bodies::ReplyBody;
 use bodies::ValueBody;
 use codes::DR;
+use codes::Disposition;
 use codes::Note;
 use negotiation::End;
 use subnegotiation::Checked;
 
-// The printer end's value about carriage returns, with NAOCRD in force.
-fn value_read(s: Bulletin, body: &[u8]) -> Step
-    ensures { λ r. ⌜ RefinesStepUnwritten (valueRead (viewBulletin s) (valueBody DR (now (body .entry)))) s r ⌝ }
+// The printer end's value about an option's character, with the option in force.
+fn value_read(s: Bulletin, d: Disposition, body: &[u8]) -> Step
+    ensures { λ r. ⌜ RefinesStepUnwritten (valueRead (viewBulletin s) d (valueBody d DR (now (body .entry)))) s r ⌝ }
 {
-    let ValueBody::Readable(value) = bodies::value_body(DR, body) else {
+    let ValueBody::Readable(value) = bodies::value_body(d, DR, body) else {
         return moves::step(s, Note::Unreadable, 0);
     };
-    let old = s.values;
-    let values = disposition::with_dr(old, value);
-    let t = moves::with_values(s, values);
+    let all = s.values;
+    let values = disposition::with_dr(disposition::values_of(all, d), value);
+    let t = moves::with_values(s, d, values);
     moves::step(t, Note::Clear, 0)
 }
 
@@ -72,7 +73,7 @@ fn handled(s: Bulletin, body: &[u8], checked: Checked, wire: &mut [u8]) -> Step
     match checked {
         Checked::Noted(note) => moves::step(s, note, 0),
         Checked::Rcte => moves::step(s, Note::OtherOption, 0),
-        Checked::Returns => value_read(s, body),
+        Checked::Disposes(d) => value_read(s, d, body),
         Checked::Macro => reply_read(s, body, wire),
     }
 }

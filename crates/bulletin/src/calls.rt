@@ -1,11 +1,13 @@
 // The bulletin end's calls. None asks anything of its caller.
 ghost use mathlib.Core.Path.{_≡_};
-ghost use Rattle.lists.specs.Buffers.{lent};
+ghost use Rattle.lists.specs.Buffers.{lent, RoomFor};
 ghost use Rattle.codes.specs.Answers.{refusalOf};
-ghost use Rattle.disposition.specs.Returns.{reportOf};
+ghost use Rattle.codes.specs.Telnet.{DS};
+ghost use Rattle.disposition.specs.Handled.{reportsOf, suggestion};
 ghost use Rattle.bulletin.specs.Calls.{
   networkCall,
   askCall,
+  suggestOf,
   suggestCall,
   orderGuards,
   orderCall,
@@ -16,12 +18,12 @@ ghost use Rattle.bulletin.specs.Calls.{
   textGuards,
   textCall,
   macroStatus,
-  returnsReport,
+  dispositionsReport,
   outputNow,
 };
 ghost use Rattle.bulletin.specs.NetworkRun.{networkRun};
 ghost use Rattle.bulletin.specs.RefinementOfRuns.{RefinesRun};
-ghost use Rattle.bulletin.specs.Refinement.{viewBulletin, WholeBulletin, RefinesAnswer, RefinesAnswerOnWire, freshCells, refusal, answered};
+ghost use Rattle.bulletin.specs.Refinement.{viewBulletin, WholeBulletin, RefinesAnswer, RefinesAnswerOnWire, RefinesOutcomeOnWire, freshCells, refusal, answered};
 use crate::Answer;
 use crate::Bulletin;
 use crate::Output;
@@ -33,9 +35,11 @@ use crate::network;
 use crate::run;
 use codes::Code;
 use codes::DS;
+use codes::Disposition;
 use codes::IAC;
+use codes::MaybeDisposition;
 use codes::Note;
-use disposition::Handling;
+use disposition::Handlings;
 use keys::Key;
 use negotiation::Asking;
 use negotiation::End;
@@ -47,13 +51,14 @@ pub fn fresh() -> Bulletin
     let sides = negotiation::all_no();
     let reader = reader::idle();
     let table = sent_macros::none();
-    let values = disposition::unspoken();
+    let values = disposition::all_unspoken();
+    let waits = disposition::no_waits();
     Bulletin {
         sides,
         reader,
         table,
         values,
-        awaiting: false,
+        waits,
     }
 }
 
@@ -126,24 +131,41 @@ pub fn ask(s: Bulletin, option: u8, way: u8, wire: &mut [u8]) -> Answer
     }
 }
 
-// This end's value about carriage returns, DS.
-pub fn suggest(s: Bulletin, v: u8, wire: &mut [u8]) -> Answer
-    ensures { λ r. ⌜ RefinesAnswerOnWire (suggestCall (viewBulletin s) v) s (lent wire) r ⌝ }
+// This end's value about an option's character, DS.
+fn suggest_of(s: Bulletin, v: u8, d: Disposition, wire: &mut [u8]) -> Answer
+    requires { ⌜ RoomFor (suggestion d DS v) (now wire) ⌝ }
+    ensures { λ r. ⌜ RefinesOutcomeOnWire (suggestOf (viewBulletin s) v d) s (lent wire) r ⌝ }
+{
+    let sides = s.sides;
+    let all = s.values;
+    let old = disposition::values_of(all, d);
+    let code = disposition::suggest_refusal(
+        d,
+        negotiation::disposition_in_force(sides, d),
+        old.ds,
+        v,
+    );
+    if !codes::is_done(code) {
+        return refused(s, code);
+    }
+    let n = disposition::put_suggestion(d, DS, v, wire);
+    let t = moves::with_values(s, d, disposition::with_ds(old, v));
+    let step = moves::step(t, Note::Clear, n);
+    done(step)
+}
+
+// The same of an option by its number.
+pub fn suggest(s: Bulletin, option: u8, v: u8, wire: &mut [u8]) -> Answer
+    ensures { λ r. ⌜ RefinesAnswerOnWire (suggestCall (viewBulletin s) option v) s (lent wire) r ⌝ }
 {
     if codes::no_wire(wire.len()) {
         return refused(s, Code::NoRoom);
     }
-    let sides = s.sides;
-    let old = s.values;
-    let code = disposition::suggest_refusal(negotiation::returns_in_force(sides), old.ds, v);
-    if !codes::is_done(code) {
-        return refused(s, code);
+    let found = codes::disposition_numbered(option);
+    match found {
+        MaybeDisposition::Some(d) => suggest_of(s, v, d, wire),
+        MaybeDisposition::None => refused(s, Code::NotCarried),
     }
-    let n = disposition::put_suggestion(DS, v, wire);
-    let values = disposition::with_ds(old, v);
-    let t = moves::with_values(s, values);
-    let step = moves::step(t, Note::Clear, n);
-    done(step)
 }
 
 // The refusals of an order in their order; Done: none.
@@ -229,7 +251,8 @@ fn use_refusal(s: Bulletin, x: u8, wire: usize) -> Code
     if !negotiation::macros_in_force(End::Bulletin, sides) {
         return Code::NotInForce;
     }
-    if s.awaiting {
+    let waits = s.waits;
+    if disposition::is_waiting(waits) {
         return Code::OutputWaits;
     }
     if sent_macros::is_accepted(&s.table.statuses, x) {
@@ -262,14 +285,15 @@ fn text_refusal(s: Bulletin, k: Key, wire: usize) -> Code
     if keys::bad_command(k) {
         return Code::BadCommand;
     }
-    if s.awaiting {
+    let waits = s.waits;
+    if disposition::is_waiting(waits) {
         Code::OutputWaits
     } else {
         Code::Done
     }
 }
 
-// A text item; with 254 in force output waits behind a carriage return.
+// A text item; output waits behind it for each option that takes part with 254.
 pub fn text_item(s: Bulletin, k: Key, wire: &mut [u8]) -> Answer
     ensures { λ r. ⌜ RefinesAnswerOnWire (textCall (viewBulletin s) k) s (lent wire) r ⌝ }
 {
@@ -278,8 +302,9 @@ pub fn text_item(s: Bulletin, k: Key, wire: &mut [u8]) -> Answer
         return refused(s, code);
     }
     let n = items::put_item(s, k, wire);
+    let waits = items::waits_after(s, k);
     let mut t = s;
-    t.awaiting = items::waits_after(s, k);
+    t.waits = waits;
     let step = moves::step(t, Note::Clear, n);
     done(step)
 }
@@ -295,18 +320,19 @@ pub fn macro_status(s: Bulletin, x: u8) -> Status
     Status::Free
 }
 
-// Who handles carriage returns, and how.
-pub fn report(s: Bulletin) -> Handling
-    ensures { λ r. ⌜ reportOf r ≡ returnsReport (viewBulletin s) ⌝ }
+// Of each option about output disposition who handles its character, and how.
+pub fn report(s: Bulletin) -> Handlings
+    ensures { λ r. ⌜ reportsOf r ≡ dispositionsReport (viewBulletin s) ⌝ }
 {
-    items::handling_now(s)
+    items::handlings_now(s)
 }
 
 // Whether output waits.
 pub fn output(s: Bulletin) -> Output
     ensures { λ r. ⌜ r ≡ outputNow (viewBulletin s) ⌝ }
 {
-    if s.awaiting {
+    let waits = s.waits;
+    if disposition::is_waiting(waits) {
         Output::Waiting
     } else {
         Output::Ready

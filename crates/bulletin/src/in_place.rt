@@ -1,8 +1,9 @@
-// Network bytes read from the sides, the phase and the wait alone, so that the rest of the state stays where it lies.
+// Network bytes read from the sides, the phase and the waits alone, so that the rest of the state stays where it lies.
 ghost use mathlib.Core.Path.{_≡_};
 ghost use Rattle.lists.specs.Buffers.{lent, RoomFor};
 ghost use Rattle.bulletin.specs.InPlace.{movesAlone, answeredInPlace, givesData, negotiatedInPlace, itemInPlace, inPlaceRead, RefinesInPlace, RefinesInPlaceOnHost, RefinesInPlaceOnWire};
 use codes::Verb;
+use disposition::Waits;
 use negotiation::End;
 use negotiation::Side;
 use negotiation::Sides;
@@ -14,26 +15,26 @@ pub struct InPlace {
     pub handled: bool,
     pub sides: Sides,
     pub phase: Phase,
-    pub awaiting: bool,
+    pub waits: Waits,
     pub host: usize,
     pub wire: usize,
 }
 
 // A byte that wrote nothing.
-fn unwritten(handled: bool, sides: Sides, phase: Phase, awaiting: bool) -> InPlace
-    ensures { λ r. ⌜ r ≡ answeredInPlace handled sides phase awaiting 0 ⌝ }
+fn unwritten(handled: bool, sides: Sides, phase: Phase, waits: Waits) -> InPlace
+    ensures { λ r. ⌜ r ≡ answeredInPlace handled sides phase waits 0 ⌝ }
 {
     InPlace {
         handled,
         sides,
         phase,
-        awaiting,
+        waits,
         host: 0,
         wire: 0,
     }
 }
 
-// BM's side empties its table, and NAOCRD's forgets its values.
+// BM's side empties its table, and that of an option about output disposition forgets its values.
 fn moves_alone(side: Side) -> bool
     ensures { λ r. ⌜ r ≡ movesAlone side ⌝ }
 {
@@ -43,22 +44,23 @@ fn moves_alone(side: Side) -> bool
         Side::Rcte => true,
         Side::Macro => false,
         Side::PrinterSga => true,
-        Side::Returns => false,
+        Side::Disposes(_) => false,
         Side::Uncarried => true,
     }
 }
 
-// Data goes to the host, and ends a wait.
+// Data goes to the host, and ends every wait.
 fn data_read(sides: Sides, next: Phase, b: u8, host: &mut [u8]) -> InPlace
     requires { ⌜ RoomFor (givesData sides next b .host) (now host) ⌝ }
     ensures { λ r. ⌜ RefinesInPlaceOnHost (givesData sides next b) (lent host) r ⌝ }
 {
     host[0] = b;
+    let waits = disposition::no_waits();
     InPlace {
         handled: true,
         sides,
         phase: next,
-        awaiting: false,
+        waits,
         host: 1,
         wire: 0,
     }
@@ -68,19 +70,19 @@ fn data_read(sides: Sides, next: Phase, b: u8, host: &mut [u8]) -> InPlace
 fn negotiated(
     sides: Sides,
     phase: Phase,
-    awaiting: bool,
+    waits: Waits,
     next: Phase,
     v: Verb,
     option: u8,
     wire: &mut [u8],
 ) -> InPlace
-    requires { ⌜ RoomFor (negotiatedInPlace sides phase awaiting next v option .wire) (now wire) ⌝ }
-    ensures { λ r. ⌜ RefinesInPlaceOnWire (negotiatedInPlace sides phase awaiting next v option) (lent wire) r ⌝ }
+    requires { ⌜ RoomFor (negotiatedInPlace sides phase waits next v option .wire) (now wire) ⌝ }
+    ensures { λ r. ⌜ RefinesInPlaceOnWire (negotiatedInPlace sides phase waits next v option) (lent wire) r ⌝ }
 {
     let turn = negotiation::heard_by(End::Bulletin, sides, v, option);
     let side = turn.side;
     if !moves_alone(side) {
-        return unwritten(false, sides, phase, awaiting);
+        return unwritten(false, sides, phase, waits);
     }
     let q = turn.next;
     let whose = turn.whose;
@@ -90,7 +92,7 @@ fn negotiated(
         handled: true,
         sides: negotiation::moved(sides, side, q),
         phase: next,
-        awaiting,
+        waits,
         host: 0,
         wire: n,
     }
@@ -100,42 +102,42 @@ fn negotiated(
 fn item_read(
     sides: Sides,
     phase: Phase,
-    awaiting: bool,
+    waits: Waits,
     next: Phase,
     item: Item,
     host: &mut [u8],
     wire: &mut [u8],
 ) -> InPlace
-    requires { ⌜ RoomFor (itemInPlace sides phase awaiting next item .host) (now host) ⌝ }
-    requires { ⌜ RoomFor (itemInPlace sides phase awaiting next item .wire) (now wire) ⌝ }
-    ensures { λ r. ⌜ RefinesInPlace (itemInPlace sides phase awaiting next item) (lent host) (lent wire) r ⌝ }
+    requires { ⌜ RoomFor (itemInPlace sides phase waits next item .host) (now host) ⌝ }
+    requires { ⌜ RoomFor (itemInPlace sides phase waits next item .wire) (now wire) ⌝ }
+    ensures { λ r. ⌜ RefinesInPlace (itemInPlace sides phase waits next item) (lent host) (lent wire) r ⌝ }
 {
     match item {
-        Item::Nothing => unwritten(true, sides, next, awaiting),
+        Item::Nothing => unwritten(true, sides, next, waits),
         Item::Data(b) => data_read(sides, next, b, host),
-        Item::Negotiated(v, option) => negotiated(sides, phase, awaiting, next, v, option, wire),
-        Item::BodyEnd => unwritten(false, sides, phase, awaiting),
-        Item::StrayCommand => unwritten(false, sides, phase, awaiting),
+        Item::Negotiated(v, option) => negotiated(sides, phase, waits, next, v, option, wire),
+        Item::BodyEnd => unwritten(false, sides, phase, waits),
+        Item::StrayCommand => unwritten(false, sides, phase, waits),
     }
 }
 
 pub fn read(
     sides: Sides,
     phase: Phase,
-    awaiting: bool,
+    waits: Waits,
     b: u8,
     host: &mut [u8],
     wire: &mut [u8],
 ) -> InPlace
-    requires { ⌜ RoomFor (inPlaceRead sides phase awaiting b .host) (now host) ⌝ }
-    requires { ⌜ RoomFor (inPlaceRead sides phase awaiting b .wire) (now wire) ⌝ }
-    ensures { λ r. ⌜ RefinesInPlace (inPlaceRead sides phase awaiting b) (lent host) (lent wire) r ⌝ }
+    requires { ⌜ RoomFor (inPlaceRead sides phase waits b .host) (now host) ⌝ }
+    requires { ⌜ RoomFor (inPlaceRead sides phase waits b .wire) (now wire) ⌝ }
+    ensures { λ r. ⌜ RefinesInPlace (inPlaceRead sides phase waits b) (lent host) (lent wire) r ⌝ }
 {
     let moved = reader::phase_read(phase, b);
     if !moved.alone {
-        return unwritten(false, sides, phase, awaiting);
+        return unwritten(false, sides, phase, waits);
     }
     let next = moved.phase;
     let item = moved.item;
-    item_read(sides, phase, awaiting, next, item, host, wire)
+    item_read(sides, phase, waits, next, item, host, wire)
 }

@@ -1,19 +1,19 @@
 // Text items and orders as they are written.
 ghost use mathlib.Core.Path.{_≡_};
 ghost use Rattle.lists.specs.Buffers.{lent, WroteAtStart, RoomFor};
-ghost use Rattle.bulletin.specs.State.{handlingNow, definitionsNow};
-ghost use Rattle.bulletin.specs.Calls.{badOrder, pairBytes, orderPairs, orderBody, orderBytes, itemBytes, waitsAfter};
+ghost use Rattle.bulletin.specs.State.{handlingsNow, definitionsNow};
+ghost use Rattle.bulletin.specs.Calls.{badOrder, pairBytes, orderPairs, orderBody, orderBytes, itemBytes, waitAfter, waitsAfter};
 ghost use Rattle.sent_macros.specs.Refinement.{viewTable};
 ghost use Rattle.bulletin.specs.Refinement.{viewBulletin};
 use crate::Bulletin;
+use codes::Disposition;
 use codes::RCTE;
-use disposition::Handling;
+use disposition::Handlings;
+use disposition::ITEM_ROOM;
+use disposition::Waits;
 use keys::Key;
 use negotiation::End;
 use sent_macros::SendingTable;
-
-// The most data of an item: CR, the byte behind it, and 250 NULs.
-const ITEM_ROOM: usize = 252;
 
 // The most of an order's body: its option, cmd and two class pairs.
 const ORDER_ROOM: usize = 6;
@@ -71,26 +71,39 @@ pub fn put_order(cmd: u8, breaks: u16, sends: u16, out: &mut [u8]) -> usize
     wire::put_frame(&body[..n], out)
 }
 
-pub fn handling_now(s: Bulletin) -> Handling
-    ensures { λ r. ⌜ r ≡ handlingNow (viewBulletin s) ⌝ }
+pub fn handlings_now(s: Bulletin) -> Handlings
+    ensures { λ r. ⌜ r ≡ handlingsNow (viewBulletin s) ⌝ }
 {
     let sides = s.sides;
     let values = s.values;
-    let on = negotiation::returns_in_force(sides);
-    disposition::handling_while(on, values)
+    disposition::handlings_in(sides, values)
 }
 
-// Whether output waits once an item is sent.
-pub fn waits_after(s: Bulletin, k: Key) -> bool
-    ensures { λ r. ⌜ r ≡ waitsAfter (viewBulletin s) k ⌝ }
+// Whether output waits for an option once an item is sent.
+fn wait_after(waits: Waits, h: Handlings, k: Key, d: Disposition) -> bool
+    ensures { λ r. ⌜ r ≡ waitAfter waits h k d ⌝ }
 {
-    if s.awaiting {
+    if disposition::wait_of(waits, d) {
         return true;
     }
-    if !disposition::is_return(k) {
+    if !disposition::takes_part(k, d) {
         return false;
     }
-    disposition::awaits(handling_now(s))
+    disposition::awaits(disposition::handling_of(h, d))
+}
+
+// .. for each of them.
+pub fn waits_after(s: Bulletin, k: Key) -> Waits
+    ensures { λ r. ⌜ r ≡ waitsAfter (viewBulletin s) k ⌝ }
+{
+    let waits = s.waits;
+    let h = handlings_now(s);
+    Waits {
+        naocrd: wait_after(waits, h, k, Disposition::Naocrd),
+        naolfd: wait_after(waits, h, k, Disposition::Naolfd),
+        naoffd: wait_after(waits, h, k, Disposition::Naoffd),
+        naohtd: wait_after(waits, h, k, Disposition::Naohtd),
+    }
 }
 
 // With BM not in force, every byte is sent as free.
@@ -106,15 +119,15 @@ fn table_now(s: Bulletin) -> SendingTable
 
 // The bytes of an item: its data, byte by byte; a Command as it is.
 pub fn put_item(s: Bulletin, k: Key, wire: &mut [u8]) -> usize
-    requires { ⌜ RoomFor (itemBytes (definitionsNow (viewBulletin s)) (handlingNow (viewBulletin s)) k) (now wire) ⌝ }
-    ensures { λ r. ⌜ WroteAtStart (itemBytes (definitionsNow (viewBulletin s)) (handlingNow (viewBulletin s)) k) (lent wire) r ⌝ }
+    requires { ⌜ RoomFor (itemBytes (definitionsNow (viewBulletin s)) (handlingsNow (viewBulletin s)) k) (now wire) ⌝ }
+    ensures { λ r. ⌜ WroteAtStart (itemBytes (definitionsNow (viewBulletin s)) (handlingsNow (viewBulletin s)) k) (lent wire) r ⌝ }
 {
     if keys::is_command(k) {
         return wire::put_key(k, wire);
     }
-    let handling = handling_now(s);
+    let handlings = handlings_now(s);
     let table = table_now(s);
     let mut data = [0u8; ITEM_ROOM];
-    let n = disposition::put_item(handling, k, &mut data);
+    let n = disposition::put_item(handlings, k, &mut data);
     sent_macros::put_data(table, &data[..n], wire)
 }

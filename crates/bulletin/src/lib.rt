@@ -1,7 +1,8 @@
 // The bulletin end: the serving host. One state by value, and its calls.
 use codes::Code;
 use codes::Note;
-use disposition::Values;
+use disposition::AllValues;
+use disposition::Waits;
 use negotiation::Sides;
 use reader::Reader;
 use sent_macros::SendingTable;
@@ -15,13 +16,14 @@ mod network;
 mod run;
 pub mod stretches;
 
-// The whole state: negotiation, reader, macros, the two carriage-return values, and whether output waits (NAOCRD 254).
+// The whole state: negotiation, reader, macros, the values about output disposition, and for which options output
+// waits (254).
 pub struct Bulletin {
     pub sides: Sides,
     pub reader: Reader,
     pub table: SendingTable,
-    pub values: Values,
-    pub awaiting: bool,
+    pub values: AllValues,
+    pub waits: Waits,
 }
 
 // A step: its note, how many bytes went to the host and to the wire, and the state after it.

@@ -4,10 +4,11 @@ ghost use Rattle.lists.specs.Buffers.{lent, RoomFor};
 ghost use Rattle.negotiation.specs.Carried.{replyBytes};
 ghost use Rattle.bulletin.specs.State.{withValues};
 ghost use Rattle.bulletin.specs.Network.{sideState, sideMoved, negotiationRead};
-ghost use Rattle.negotiation.specs.declared.Side.the-variants.{Macro, Returns};
+ghost use Rattle.negotiation.specs.declared.Side.the-variants.{Macro, Disposes};
 ghost use Rattle.bulletin.specs.Refinement.{viewBulletin, RefinesStepOnWire, RefinesState, stepOf, sidesMoved, tableSet};
 use crate::Bulletin;
 use crate::Step;
+use codes::Disposition;
 use codes::Note;
 use codes::Verb;
 use codes::Whose;
@@ -38,15 +39,19 @@ pub fn with_table(s: Bulletin, table: SendingTable) -> Bulletin
     t
 }
 
-// A wait lasts while the outcome stays the sender's 254.
-pub fn with_values(s: Bulletin, values: Values) -> Bulletin
-    ensures { λ r. ⌜ RefinesState (withValues (viewBulletin s) values) s r ⌝ }
+// The values of one option; its wait, and no other, lasts while its outcome stays the sender's 254.
+pub fn with_values(s: Bulletin, d: Disposition, values: Values) -> Bulletin
+    ensures { λ r. ⌜ RefinesState (withValues (viewBulletin s) d values) s r ⌝ }
 {
-    let handling = disposition::handling_of(values);
-    let awaiting = s.awaiting && disposition::awaits(handling);
+    let all = s.values;
+    let waits = s.waits;
+    let lasts = disposition::awaits(disposition::handling_by(values));
+    let wait = disposition::wait_of(waits, d) & lasts;
+    let values_after = disposition::with_values_of(all, d, values);
+    let waits_after = disposition::with_wait_of(waits, d, wait);
     let mut t = s;
-    t.values = values;
-    t.awaiting = awaiting;
+    t.values = values_after;
+    t.waits = waits_after;
     t
 }
 
@@ -66,20 +71,19 @@ fn macro_moved(s: Bulletin, q: OptionState) -> Bulletin
     t
 }
 
-// .. and forgets NAOCRD's values.
-fn returns_moved(s: Bulletin, q: OptionState) -> Bulletin
-    ensures { λ r. ⌜ RefinesState (sideState (viewBulletin s) Returns q) s r ⌝ }
+// .. and forgets the values of an option about output disposition.
+fn disposition_moved(s: Bulletin, d: Disposition, q: OptionState) -> Bulletin
+    ensures { λ r. ⌜ RefinesState (sideState (viewBulletin s) (Disposes d) q) s r ⌝ }
 {
     let old = s.sides;
-    let sides = negotiation::moved(old, Side::Returns, q);
+    let sides = negotiation::moved(old, Side::Disposes(d), q);
     let mut t = s;
     t.sides = sides;
     if negotiation::is_yes(q) {
-        let values = s.values;
-        return with_values(t, values);
+        let all = s.values;
+        return with_values(t, d, disposition::values_of(all, d));
     }
-    let values = disposition::unspoken();
-    with_values(t, values)
+    with_values(t, d, disposition::unspoken())
 }
 
 // Nothing but the side's state changes.
@@ -98,7 +102,7 @@ fn side_moved(s: Bulletin, side: Side, q: OptionState) -> Bulletin
 {
     match side {
         Side::Macro => macro_moved(s, q),
-        Side::Returns => returns_moved(s, q),
+        Side::Disposes(d) => disposition_moved(s, d, q),
         Side::Rcte => plainly_moved(s, Side::Rcte, q),
         Side::Echo => plainly_moved(s, Side::Echo, q),
         Side::BulletinSga => plainly_moved(s, Side::BulletinSga, q),

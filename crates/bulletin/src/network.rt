@@ -9,14 +9,15 @@ use crate::moves;
 use codes::Note;
 use reader::Item;
 
-// Data goes to the host, and ends a wait.
+// Data goes to the host, and ends every wait.
 fn data_read(s: Bulletin, b: u8, host: &mut [u8]) -> Step
     requires { ⌜ RoomFor (dataRead (viewBulletin s) b .host) (now host) ⌝ }
     ensures { λ r. ⌜ RefinesStepOnHost (dataRead (viewBulletin s) b) s (lent host) r ⌝ }
 {
     host[0] = b;
+    let waits = disposition::no_waits();
     let mut t = s;
-    t.awaiting = false;
+    t.waits = waits;
     Step {
         note: Note::Clear,
         host: 1,

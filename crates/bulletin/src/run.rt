@@ -53,7 +53,7 @@ pub fn read_bytes(s: Bulletin, bytes: &[u8], host: &mut [u8], wire: &mut [u8]) -
         let reading = state.reader;
         let phase = reading.phase;
         let end = reader::reach(i, bytes.len(), left);
-        let n = stretches::data_stretch(phase, state.awaiting, &bytes[i..end]);
+        let n = stretches::data_stretch(phase, state.waits, &bytes[i..end]);
         if n > 0 {
             let next = i + n;
             let copied = wire::put_bytes(&bytes[i..next], &mut host[p..]);

@@ -1,3 +1,4 @@
 pub mod Guards
 pub mod Rooms
 pub mod Notes
+pub mod Entries

@@ -44,7 +44,7 @@ abbrev pub paperRoom : ℕ
 paperRoom = 1024
 
 abbrev pub wireRoom : ℕ
-wireRoom = 2048
+wireRoom = 4096
 
 abbrev pub noRoom : ℕ → ℕ → Bool
 noRoom paper wire = ltb paper paperRoom || ltb wire wireRoom

@@ -35,15 +35,24 @@ DONT = 254
 abbrev pub IAC : ℕ
 IAC = 255
 
--- the characters of a carriage return: a Line is CR LF, Char(13) is CR NUL
+-- the characters that an option disposes of, and what goes with them: a Line is CR LF, Char(13) is CR NUL
 abbrev pub NUL : ℕ
 NUL = 0
+
+abbrev pub HT : ℕ
+HT = 9
 
 abbrev pub LF : ℕ
 LF = 10
 
+abbrev pub FF : ℕ
+FF = 12
+
 abbrev pub CR : ℕ
 CR = 13
+
+abbrev pub SPACE : ℕ
+SPACE = 32
 
 -- any byte but IAC
 abbrev pub notIac : ℕ → Bool
@@ -60,6 +69,15 @@ RCTE = 7
 
 abbrev pub NAOCRD : ℕ
 NAOCRD = 10
+
+abbrev pub NAOHTD : ℕ
+NAOHTD = 12
+
+abbrev pub NAOFFD : ℕ
+NAOFFD = 13
+
+abbrev pub NAOLFD : ℕ
+NAOLFD = 16
 
 abbrev pub BM : ℕ
 BM = 19
@@ -81,7 +99,7 @@ LITERAL = 4
 abbrev pub PLEASECANCEL : ℕ
 PLEASECANCEL = 5
 
--- the two ways of a NAOCRD body: from the data receiver, the printer end, and from the data sender, the bulletin end
+-- the two ways of a disposition's body: from the data receiver, the printer end, and from the data sender, the bulletin end
 abbrev pub DR : ℕ
 DR = 0
 

@@ -2,6 +2,7 @@
 ghost use mathlib.Core.Path.{_≡_};
 ghost use Rattle.codes.specs.Answers.{codeNumber, noteNumber, firstNote, noRoom, noWire, isDone, isClear};
 ghost use Rattle.codes.specs.Telnet.{verbNumber, whoseOf, enables, plainCommand, otherSide};
+ghost use Rattle.codes.specs.Dispositions.{optionNumber, dispositionNumbered};
 
 // The commands of RFC 854 that are told apart; NOP to GA may be keys.
 pub const SE: u8 = 240;
@@ -22,12 +23,18 @@ pub const DONT: u8 = 254;
 
 pub const IAC: u8 = 255;
 
-// What Line and Char(13) are on the wire: CR LF and CR NUL.
+// The characters that an option disposes of, and what goes with them: a Line is CR LF, Char(13) is CR NUL.
 pub const NUL: u8 = 0;
+
+pub const HT: u8 = 9;
 
 pub const LF: u8 = 10;
 
+pub const FF: u8 = 12;
+
 pub const CR: u8 = 13;
+
+pub const SPACE: u8 = 32;
 
 // The options that are carried.
 pub const ECHO: u8 = 1;
@@ -37,6 +44,12 @@ pub const SGA: u8 = 3;
 pub const RCTE: u8 = 7;
 
 pub const NAOCRD: u8 = 10;
+
+pub const NAOHTD: u8 = 12;
+
+pub const NAOFFD: u8 = 13;
+
+pub const NAOLFD: u8 = 16;
 
 pub const BM: u8 = 19;
 
@@ -51,7 +64,7 @@ pub const LITERAL: u8 = 4;
 
 pub const PLEASE_CANCEL: u8 = 5;
 
-// The two ways of a NAOCRD body: from the printer end, and from the bulletin end.
+// The two ways of a disposition's body: from the printer end, and from the bulletin end.
 pub const DR: u8 = 0;
 
 pub const DS: u8 = 1;
@@ -59,7 +72,7 @@ pub const DS: u8 = 1;
 // The sizes that code 1 asks of the lent buffers.
 pub const PAPER_ROOM: usize = 1024;
 
-pub const WIRE_ROOM: usize = 2048;
+pub const WIRE_ROOM: usize = 4096;
 
 // Every code but Done is a refusal: the state and the lent bytes do not change.
 pub enum Code {
@@ -100,6 +113,20 @@ pub enum Verb {
 pub enum Whose {
     His,
     Ours,
+}
+
+// The options about output disposition: of carriage returns, line feeds, form feeds and horizontal tabs.
+pub enum Disposition {
+    Naocrd,
+    Naolfd,
+    Naoffd,
+    Naohtd,
+}
+
+// The one of them that a number or a character belongs to, if any.
+pub enum MaybeDisposition {
+    Some(Disposition),
+    None,
 }
 
 // The number that a code is known by.
@@ -228,4 +255,27 @@ pub fn plain_command(c: u8) -> bool
     ensures { λ r. ⌜ r ≡ plainCommand c ⌝ }
 {
     c >= NOP && c <= GA
+}
+
+pub fn option_number(d: Disposition) -> u8
+    ensures { λ r. ⌜ r ≡ optionNumber d ⌝ }
+{
+    match d {
+        Disposition::Naocrd => NAOCRD,
+        Disposition::Naolfd => NAOLFD,
+        Disposition::Naoffd => NAOFFD,
+        Disposition::Naohtd => NAOHTD,
+    }
+}
+
+pub fn disposition_numbered(option: u8) -> MaybeDisposition
+    ensures { λ r. ⌜ r ≡ dispositionNumbered option ⌝ }
+{
+    match option {
+        NAOCRD => MaybeDisposition::Some(Disposition::Naocrd),
+        NAOLFD => MaybeDisposition::Some(Disposition::Naolfd),
+        NAOFFD => MaybeDisposition::Some(Disposition::Naoffd),
+        NAOHTD => MaybeDisposition::Some(Disposition::Naohtd),
+        _ => MaybeDisposition::None,
+    }
 }

@@ -1,2 +1,4 @@
-pub mod Padding
 pub mod Reports
+pub mod ItemLengths
+pub mod Padding
+pub mod Waiting

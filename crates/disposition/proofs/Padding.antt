@@ -1,37 +1,20 @@
--- Which values pad, and what a padded list is then.
+-- A character that is neither dropped nor replaced goes out with its NULs, and so does a Line.
 use mathlib.Core.Path.{_≡_}
-use mathlib.Core.Bool.{Bool, true, false, cond}
-use mathlib.Core.List.{List, _++_}
-use Prim.Native.Nat.{ℕ, _+_, _≤_, _<_}
-use native.Mathlib.Omega.{arith}
-use borrow.Author.Tests.{le-leb, lt-leb}
-use lib.ListN.{length, replicate, length-append}
-use Rattle.lists.specs.Choice.{between}
-use Rattle.disposition.specs.Returns.{padded}
+use mathlib.Core.Bool.{false}
+use mathlib.Core.List.{[], _∷_, _++_}
+use Prim.Native.Nat.{_+_}
+use Rattle.codes.specs.Telnet.{LF, CR}
+use Rattle.codes.specs.declared.Disposition.{Disposition}
+use Rattle.disposition.specs.declared.Handling.{Handling}
+use Rattle.disposition.specs.Handled.{handledBy}
+use Rattle.disposition.specs.ItemData.{drops, replaces, characterBytes, nulCount, nuls, characterData, lineData}
 
-module _ (n : ℕ) (bytes : List ℕ) where
-  pub pads : 1 ≤ n → n < 251 → padded n bytes ≡ bytes ++ replicate n 0
-  unfolding padded
-  pads low high =
-      let most : n ≤ 250 = omega arith in
-      rw (le-leb 1 n low, le-leb n 250 most)
+pub character-padded : (d : Disposition) (h : Handling) → handledBy drops h ≡ false → handledBy replaces h ≡ false
+    → characterData d h ≡ characterBytes d ++ nuls (nulCount h)
+unfolding characterData
+character-padded d h kept same = rw (kept, same)
 
-  pub none-below : n < 1 → padded n bytes ≡ bytes
-  unfolding padded
-  none-below h = rw (lt-leb 1 n h)
-
-  pub none-above : 251 ≤ n → padded n bytes ≡ bytes
-  unfolding padded
-  none-above h =
-      let low : 1 ≤ n = omega arith in
-      let most : 250 < n = omega arith in
-      rw (le-leb 1 n low, lt-leb n 250 most)
-
-  -- the bytes themselves are always sent
-  pub at-least : length bytes ≤ length (padded n bytes)
-  unfolding padded
-  at-least = go (between 1 250 n)
-    where
-      go : (b : Bool) → length bytes ≤ length (cond b (bytes ++ replicate n 0) bytes)
-      go true = simp length-append (omega arith)
-      go false = omega arith
+pub line-padded : (returns feeds : Handling) → handledBy drops returns ≡ false → handledBy drops feeds ≡ false
+    → lineData returns feeds ≡ (CR ∷ LF ∷ []) ++ nuls (nulCount returns + nulCount feeds)
+unfolding lineData
+line-padded returns feeds one two = rw (one, two)

@@ -1,1 +1,3 @@
-pub mod Returns
+pub mod ByOption
+pub mod Handled
+pub mod ItemData

@@ -20,16 +20,16 @@ body bytes = 0xff ∷ 0xfa ∷ (bytes ++ (0xff ∷ 0xf0 ∷ []))
 
 -- at the printer end, in buffers that are large enough
 abbrev pub reads : List ℕ → List PS.Call
-reads bytes = map (λ b. PS.network b 1024 2048) bytes
+reads bytes = map (λ b. PS.network b 1024 4096) bytes
 
 abbrev pub types : List ℕ → List PS.Call
-types bytes = map (λ b. PS.key (Char b) 1024 2048) bytes
+types bytes = map (λ b. PS.key (Char b) 1024 4096) bytes
 
 abbrev pub typesLine : List PS.Call
-typesLine = PS.key Line 1024 2048 ∷ []
+typesLine = PS.key Line 1024 4096 ∷ []
 
 abbrev pub hears : List ℕ → List BS.Call
-hears bytes = map (λ b. BS.network b 1024 2048) bytes
+hears bytes = map (λ b. BS.network b 1024 4096) bytes
 
 -- all paper, all wire bytes and all notes of a session
 abbrev pub paperOf : List PS.Call → List ℕ

@@ -5,7 +5,6 @@ use mathlib.Core.Bool.{true, false, cond}
 use mathlib.Core.List.{List, [], _∷_, _++_, map, flatMap}
 use Prim.Native.Nat.{ℕ, _+_}
 use lib.ListN.{replicate}
-use Rattle.keys.specs.declared.Key.{Key}
 use Rattle.keys.specs.declared.Key.the-variants.{Char, Line, Command}
 use Rattle.rcte.specs.Taking.{How}
 use Rattle.rcte.specs.Taking.How.{atOnce, under}
@@ -49,7 +48,7 @@ howBehind before calls = map (λ t. howNumber (t .how)) (flatMap (λ a. a .effec
 
 -- NUL is a macro byte, and the sender handles by two NULs
 abbrev nulIsMacro : List BS.Call
-nulIsMacro = BS.ask 19 3 2048 ∷ hears (0xff ∷ 0xfd ∷ 0x13 ∷ []) ++ BS.define 0 (0x41 ∷ []) 2048 ∷ hears (body (0x13 ∷ 0x02 ∷ 0x00 ∷ [])) ++ senderHandles ++ receiverSays 2
+nulIsMacro = BS.ask 19 3 4096 ∷ hears (0xff ∷ 0xfd ∷ 0x13 ∷ []) ++ BS.define 0 (0x41 ∷ []) 4096 ∷ hears (body (0x13 ∷ 0x02 ∷ 0x00 ∷ [])) ++ senderHandles ++ receiverSays 2
 
 -- a run of network bytes on a fresh printer end: its code and note, how many bytes it took, and what it printed
 abbrev runOf : List ℕ → (paper wire : ℕ) → List ℕ
@@ -80,9 +79,9 @@ further =
     -- a tape of one byte too many prints `bad tape 0` and nothing else
     ∷ example (tapeOutput (replicate 65537 4)) (0x62 ∷ 0x61 ∷ 0x64 ∷ 0x20 ∷ 0x74 ∷ 0x61 ∷ 0x70 ∷ 0x65 ∷ 0x20 ∷ 0x30 ∷ 0x0a ∷ [])
     -- the run of a tape lends a buffer afresh where less than the room of code 1 is left of it
-    ∷ example (map (λ n. lentAfresh programs (record { paper = n; wire = 8192 }) .paper) (1023 ∷ 1024 ∷ []) ++ map (λ n. lentAfresh programs (record { paper = 4096; wire = n }) .wire) (2047 ∷ 2048 ∷ [])) (4096 ∷ 1024 ∷ 8192 ∷ 2048 ∷ [])
+    ∷ example (map (λ n. lentAfresh programs (record { paper = n; wire = 16384 }) .paper) (1023 ∷ 1024 ∷ []) ++ map (λ n. lentAfresh programs (record { paper = 4096; wire = n }) .wire) (4095 ∷ 4096 ∷ [])) (4096 ∷ 1024 ∷ 16384 ∷ 4096 ∷ [])
     -- a run of network bytes ends behind a note, and before a byte that would find less than the room of code 1
-    ∷ example (runOf (0x41 ∷ 0xff ∷ 0xf0 ∷ 0x42 ∷ []) 4096 8192 ++ runOf (0x41 ∷ 0xff ∷ 0xf1 ∷ 0x42 ∷ 0x43 ∷ []) 1025 2048) (0 ∷ 4 ∷ 3 ∷ 0x41 ∷ [] ++ 0 ∷ 0 ∷ 4 ∷ 0x41 ∷ 0x42 ∷ [])
+    ∷ example (runOf (0x41 ∷ 0xff ∷ 0xf0 ∷ 0x42 ∷ []) 4096 16384 ++ runOf (0x41 ∷ 0xff ∷ 0xf1 ∷ 0x42 ∷ 0x43 ∷ []) 1025 4096) (0 ∷ 4 ∷ 3 ∷ 0x41 ∷ [] ++ 0 ∷ 0 ∷ 4 ∷ 0x41 ∷ 0x42 ∷ [])
     ∷ []
 
 -- the claim: the rules give what the examples say

@@ -16,7 +16,8 @@ use Rattle.bodies.specs.ValueBodies.{valueBody}
 use Rattle.received_macros.specs.Texts.{total, defined, judged}
 use Rattle.rcte.specs.Control.{isFull, pressed, released, commanded, rcteEnded}
 use Rattle.rcte.specs.Taking.{isBreak, isSend, takenUp}
-use Rattle.disposition.specs.Returns.{handling}
+use Rattle.codes.specs.Dispositions.{dispositionNumbered}
+use Rattle.disposition.specs.Handled.{handling}
 use Rattle.printer.specs.Calls.{networkCall, keyTyped, keyCall, askCall, suggestCall}
 use Rattle.printer.specs.Network.{dataRead, sideMoved, negotiationRead, bodyRead, byteRead, bytesRead, networkRead}
 use Rattle.printer.specs.Session.{called, answersFrom}
@@ -26,7 +27,7 @@ use Rattle.tape.specs.Lines.{digits, hexByte, lineOf, shown, badTape}
 use Rattle.tape.specs.Running.{pairOf, itemAnswer, itemsRun, fieldsRun, tapeOutput}
 
 unfoldable pub layerRules : Unit {0}
-unfolding oneOf sum flatMap guarded classOf inClasses prints keyPaper keyWire coded frame printerSide clashes heardBy askedSide askingOf heard asked keeping commandRead bodyCommandRead read byOption optionChecked checked macroBody rcteBody valueBody total defined judged isFull pressed released commanded rcteEnded isBreak isSend takenUp handling
+unfolding oneOf sum flatMap guarded dispositionNumbered classOf inClasses prints keyPaper keyWire coded frame printerSide clashes heardBy askedSide askingOf heard asked keeping commandRead bodyCommandRead read byOption optionChecked checked macroBody rcteBody valueBody total defined judged isFull pressed released commanded rcteEnded isBreak isSend takenUp handling
 layerRules = tt
 
 unfoldable pub printerRules : Unit {0}

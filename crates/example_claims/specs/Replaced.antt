@@ -23,7 +23,7 @@ skipsAndSends = 0xff ∷ 0xfa ∷ 7 ∷ 21 ∷ 0 ∷ 4 ∷ 0xff ∷ 0xf0 ∷ []
 
 -- a key between network bytes, and the marks of the calls if it is replaced
 abbrev pub typed : List ℕ → Key → List ℕ → List PS.Call
-typed before k later = reads before ++ PS.key k 1024 2048 ∷ reads later
+typed before k later = reads before ++ PS.key k 1024 4096 ∷ reads later
 
 abbrev pub marks : List ℕ → List ℕ → List Bool
 marks before later = map (λ b. false) before ++ true ∷ map (λ b. false) later

@@ -1,10 +1,11 @@
 -- What a list of calls and questions shows of each, in plain numbers, and where two lists of that first differ.
 use mathlib.Core.Bool.{Bool, true, false, _&&_, cond}
-use mathlib.Core.List.{List, [], _∷_}
+use mathlib.Core.List.{List, [], _∷_, flatMap}
 use Prim.Native.Nat.{ℕ, suc}
 use lib.Dec.{eqb}
 use Rattle.codes.specs.Answers.{codeNumber, noteNumber}
-use Rattle.disposition.specs.Returns.{Report}
+use Rattle.disposition.specs.ByOption.{isWaiting}
+use Rattle.disposition.specs.Handled.{Report}
 use Rattle.sent_macros.specs.Sending.{statusNumber}
 use Rattle.printer.specs.State as P
 use Rattle.printer.specs.Calls as PC
@@ -33,9 +34,9 @@ shownPrinter a = show (codeNumber (a .code)) (noteNumber (a .effect .note)) (a .
 abbrev pub shownBulletin : B.CallEffect → Shown
 shownBulletin a = show (codeNumber (a .code)) (noteNumber (a .effect .note)) (a .effect .host) (a .effect .wire) 0
 
--- what a report tells: who handles carriage returns, and the value
-abbrev reportNumbers : Report → List ℕ
-reportNumbers r = r .who ∷ r .value ∷ []
+-- what a report tells: for each option about output disposition who handles its character, and the value
+abbrev reportNumbers : List Report → List ℕ
+reportNumbers rs = flatMap (λ r. r .who ∷ r .value ∷ []) rs
 
 -- what a list has: a call, or a question about the state that the last call left
 pub data PrinterLine : Type 0 where
@@ -45,7 +46,7 @@ pub data PrinterLine : Type 0 where
 unfoldable pub printerLines : P.PrinterState → List PrinterLine → List Shown
 printerLines s [] = []
 printerLines s (PrinterLine.call c ∷ ls) = let a = PS.called s c in shownPrinter a ∷ printerLines (a .effect .state) ls
-printerLines s (PrinterLine.report ∷ ls) = told (reportNumbers (PC.returnsReport s)) ∷ printerLines s ls
+printerLines s (PrinterLine.report ∷ ls) = told (reportNumbers (PC.dispositionsReport s)) ∷ printerLines s ls
 
 pub data BulletinLine : Type 0 where
   call : BS.Call → BulletinLine
@@ -57,8 +58,8 @@ unfoldable pub bulletinLines : B.BulletinState → List BulletinLine → List Sh
 bulletinLines s [] = []
 bulletinLines s (BulletinLine.call c ∷ ls) = let a = BS.called s c in shownBulletin a ∷ bulletinLines (a .effect .state) ls
 bulletinLines s (BulletinLine.status x ∷ ls) = told (statusNumber (BC.macroStatus s x) ∷ []) ∷ bulletinLines s ls
-bulletinLines s (BulletinLine.report ∷ ls) = told (reportNumbers (BC.returnsReport s)) ∷ bulletinLines s ls
-bulletinLines s (BulletinLine.output ∷ ls) = told (cond (s .awaiting) 1 0 ∷ []) ∷ bulletinLines s ls
+bulletinLines s (BulletinLine.report ∷ ls) = told (reportNumbers (BC.dispositionsReport s)) ∷ bulletinLines s ls
+bulletinLines s (BulletinLine.output ∷ ls) = told (cond (isWaiting (s .waits)) 1 0 ∷ []) ∷ bulletinLines s ls
 
 unfoldable pub sameBytes : List ℕ → List ℕ → Bool
 sameBytes [] [] = true

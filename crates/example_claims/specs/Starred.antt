@@ -40,7 +40,7 @@ literalRead = 0xff ∷ 0xfa ∷ 0x13 ∷ 0x04 ∷ 0x80 ∷ 0xff ∷ 0xf0 ∷ []
 
 -- NAOCRD in force, DS suggested as 0; DR received
 abbrev pub senderHandles : List BS.Call
-senderHandles = hears (0xff ∷ 0xfb ∷ 0x0a ∷ []) ++ BS.suggest 0 2048 ∷ []
+senderHandles = hears (0xff ∷ 0xfb ∷ 0x0a ∷ []) ++ BS.suggest 10 0 4096 ∷ []
 
 abbrev pub senderHandlesWire : List ℕ
 senderHandlesWire = 0xff ∷ 0xfd ∷ 0x0a ∷ 0xff ∷ 0xfa ∷ 0x0a ∷ 0x01 ∷ 0x00 ∷ 0xff ∷ 0xf0 ∷ []
@@ -49,7 +49,7 @@ abbrev pub receiverSays : ℕ → List BS.Call
 receiverSays v = hears (0xff ∷ 0xfa ∷ 0x0a ∷ 0x00 ∷ v ∷ 0xff ∷ 0xf0 ∷ [])
 
 abbrev pub sendsItem : Key → List BS.Call
-sendsItem k = BS.text k 2048 ∷ []
+sendsItem k = BS.text k 4096 ∷ []
 
 -- RCTE in force, an order to skip text and break at upper case, the break itself, two keys that wait, then a body
 abbrev pub rcteWith : List ℕ → List ℕ

@@ -5,13 +5,13 @@ use Rattle.negotiation.specs.declared.OptionState.{OptionState}
 use Rattle.negotiation.specs.declared.OptionState.the-variants.{No, Yes, WantNo, WantNoOpposite, WantYes, WantYesOpposite}
 use Rattle.negotiation.specs.declared.Reply.{Reply}
 use Rattle.negotiation.specs.declared.Asked.the-variants.{Already, Moves}
-use Rattle.negotiation.specs.declared.Side.the-variants.{Echo, BulletinSga, Rcte, Macro, PrinterSga, Returns, Uncarried}
+use Rattle.negotiation.specs.declared.Side.the-variants.{Echo, BulletinSga, Rcte, Macro, PrinterSga, Disposes, Uncarried}
 use Rattle.negotiation.specs.declared.Side.{Side}
 use Rattle.negotiation.specs.declared.Sides.{Sides}
 use Rattle.negotiation.specs.declared.Turn.{Turn}
 use Rattle.negotiation.specs.Table.{isNo, heard, asked}
 use Rattle.negotiation.specs.Carried.{stateOf, moved, mayEnable, clashes, askedSide, askedEnable, askedBy, askingOf}
-use Rattle.negotiation.specs.Apart.{Apart, Reached, StayApart}
+use Rattle.negotiation.specs.Apart.{Apart, StayApart}
 use Rattle.negotiation.specs.Apart.Reached.{first, hears, asks}
 use Rattle.codes.specs.Telnet.{enables}
 use Rattle.negotiation.proofs.Outcomes.{heard-cases, asked-cases}
@@ -50,7 +50,7 @@ heard-apart s Rcte enable e =
     or-comm b (isNo (heard enable b (s .rcte) .next)) ∙ heard-keeps enable b (s .rcte) (or-comm (isNo (s .rcte)) b ∙ e)
 heard-apart s Macro enable e = e
 heard-apart s PrinterSga enable e = e
-heard-apart s Returns enable e = e
+heard-apart s (Disposes d) enable e = e
 heard-apart s Uncarried enable e = e
 
 -- and an ask that is not refused
@@ -64,7 +64,7 @@ asked-apart s Rcte enable q r e clash moves =
     or-comm b (isNo q) ∙ asked-keeps enable b (s .rcte) q r (or-comm (isNo (s .rcte)) b ∙ e) clash moves
 asked-apart s Macro enable q r e clash moves = e
 asked-apart s PrinterSga enable q r e clash moves = e
-asked-apart s Returns enable q r e clash moves = e
+asked-apart s (Disposes d) enable q r e clash moves = e
 asked-apart s Uncarried enable q r e clash moves = e
 
 asking-apart : (s : Sides) (side : Side) (enable : Bool) → Apart s → Apart (askedBy (λ c. s) (λ q r. moved s side q) (askingOf s side enable))

@@ -12,7 +12,7 @@ use Rattle.negotiation.specs.declared.End.{End}
 use Rattle.negotiation.specs.declared.OptionState.{OptionState}
 use Rattle.negotiation.specs.declared.Reply.{Reply}
 use Rattle.negotiation.specs.declared.Side.{Side}
-use Rattle.negotiation.specs.declared.Side.the-variants.{Echo, BulletinSga, Rcte, Macro, PrinterSga, Returns, Uncarried}
+use Rattle.negotiation.specs.declared.Side.the-variants.{Echo, BulletinSga, Rcte, Macro, PrinterSga, Disposes, Uncarried}
 use Rattle.negotiation.specs.declared.OptionState.the-variants.{No}
 use Rattle.negotiation.specs.declared.Sides.{Sides}
 use Rattle.negotiation.specs.declared.Asked.{Asked}
@@ -28,7 +28,7 @@ uncarried BulletinSga e = absurd (false≢true (sym e))
 uncarried Rcte e = absurd (false≢true (sym e))
 uncarried Macro e = absurd (false≢true (sym e))
 uncarried PrinterSga e = absurd (false≢true (sym e))
-uncarried Returns e = absurd (false≢true (sym e))
+uncarried (Disposes d) e = absurd (false≢true (sym e))
 uncarried Uncarried e = refl
 
 -- a carried side follows the table, an uncarried option is declined

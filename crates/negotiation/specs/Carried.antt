@@ -6,7 +6,9 @@ use lib.Dec.{ltb, eqb}
 use Rattle.codes.specs.Answers.{Guard, refusedIf, guarded}
 use Rattle.codes.specs.declared.Code.{Code}
 use Rattle.codes.specs.declared.Code.the-variants.{NotCarried, AlreadySo, EchoAgainstRcte}
-use Rattle.codes.specs.Telnet.{ECHO, SGA, RCTE, NAOCRD, BM, otherSide, whoseOf, enables}
+use Rattle.codes.specs.Telnet.{ECHO, SGA, RCTE, BM, otherSide, whoseOf, enables}
+use Rattle.codes.specs.Dispositions.{dispositionNumbered, ofDisposition, Each, entryOf, withEntry, forEach}
+use Rattle.codes.specs.declared.Disposition.{Disposition}
 use Rattle.wire.specs.Frames.{negotiation}
 use Rattle.codes.specs.declared.Verb.{Verb}
 use Rattle.codes.specs.declared.Verb.the-variants.{Will, Wont, Do, Dont}
@@ -19,7 +21,8 @@ use Rattle.negotiation.specs.declared.OptionState.the-variants.{No}
 use Rattle.negotiation.specs.declared.Reply.{Reply}
 use Rattle.negotiation.specs.declared.Reply.the-variants.{Silent, Positive, Negative}
 use Rattle.negotiation.specs.declared.Side.{Side}
-use Rattle.negotiation.specs.declared.Side.the-variants.{Echo, BulletinSga, Rcte, Macro, PrinterSga, Returns, Uncarried}
+use Rattle.negotiation.specs.declared.Side.the-variants.{Echo, BulletinSga, Rcte, Macro, PrinterSga, Disposes, Uncarried}
+use Rattle.negotiation.specs.declared.DispositionStates.{DispositionStates}
 use Rattle.negotiation.specs.declared.Sides.{Sides}
 use Rattle.negotiation.specs.declared.Heard.{Heard}
 use Rattle.negotiation.specs.declared.Asked.{Asked}
@@ -28,14 +31,14 @@ use Rattle.negotiation.specs.declared.Asking.{Asking}
 use Rattle.negotiation.specs.declared.Turn.{Turn}
 use Rattle.negotiation.specs.Table.{to, isNo, isYes, isYesOrEnding, heard, asked, isAlready}
 
--- what the printer end carries: four options on his side, two on ours
+-- what the printer end carries: four options on his side, five on ours
 unfoldable pub printerSide : Whose → ℕ → Side
 printerSide His option =
     cond (eqb option ECHO) Echo
     (cond (eqb option SGA) BulletinSga
     (cond (eqb option RCTE) Rcte
     (cond (eqb option BM) Macro Uncarried)))
-printerSide Ours option = cond (eqb option SGA) PrinterSga (cond (eqb option NAOCRD) Returns Uncarried)
+printerSide Ours option = cond (eqb option SGA) PrinterSga (ofDisposition Uncarried Disposes (dispositionNumbered option))
 
 -- the bulletin end carries the mirror of this
 abbrev pub carriedSide : End → Whose → ℕ → Side
@@ -48,8 +51,21 @@ isCarried BulletinSga = true
 isCarried Rcte = true
 isCarried Macro = true
 isCarried PrinterSga = true
-isCarried Returns = true
+isCarried (Disposes d) = true
 isCarried Uncarried = false
+
+-- the state of an option about output disposition
+abbrev pub eachState : DispositionStates → Each OptionState
+eachState s = record { naocrd = s .naocrd; naolfd = s .naolfd; naoffd = s .naoffd; naohtd = s .naohtd }
+
+abbrev pub statesFrom : Each OptionState → DispositionStates
+statesFrom e = record { naocrd = e .naocrd; naolfd = e .naolfd; naoffd = e .naoffd; naohtd = e .naohtd }
+
+abbrev pub dispositionState : DispositionStates → Disposition → OptionState
+dispositionState s d = entryOf (eachState s) d
+
+abbrev pub withDispositionState : DispositionStates → Disposition → OptionState → DispositionStates
+withDispositionState s d q = statesFrom (withEntry (eachState s) d q)
 
 abbrev pub stateOf : Sides → Side → OptionState
 stateOf s Echo = s .echo
@@ -57,20 +73,34 @@ stateOf s BulletinSga = s .sga
 stateOf s Rcte = s .rcte
 stateOf s Macro = s .bm
 stateOf s PrinterSga = s .printersga
-stateOf s Returns = s .naocrd
+stateOf s (Disposes d) = dispositionState (s .dispositions) d
 stateOf s Uncarried = No
 
 abbrev pub moved : Sides → Side → OptionState → Sides
-moved s Echo q = record { echo = q; sga = s .sga; rcte = s .rcte; bm = s .bm; printersga = s .printersga; naocrd = s .naocrd }
-moved s BulletinSga q = record { echo = s .echo; sga = q; rcte = s .rcte; bm = s .bm; printersga = s .printersga; naocrd = s .naocrd }
-moved s Rcte q = record { echo = s .echo; sga = s .sga; rcte = q; bm = s .bm; printersga = s .printersga; naocrd = s .naocrd }
-moved s Macro q = record { echo = s .echo; sga = s .sga; rcte = s .rcte; bm = q; printersga = s .printersga; naocrd = s .naocrd }
-moved s PrinterSga q = record { echo = s .echo; sga = s .sga; rcte = s .rcte; bm = s .bm; printersga = q; naocrd = s .naocrd }
-moved s Returns q = record { echo = s .echo; sga = s .sga; rcte = s .rcte; bm = s .bm; printersga = s .printersga; naocrd = q }
+moved s Echo q = record { echo = q; sga = s .sga; rcte = s .rcte; bm = s .bm; printersga = s .printersga; dispositions = s .dispositions }
+moved s BulletinSga q = record { echo = s .echo; sga = q; rcte = s .rcte; bm = s .bm; printersga = s .printersga; dispositions = s .dispositions }
+moved s Rcte q = record { echo = s .echo; sga = s .sga; rcte = q; bm = s .bm; printersga = s .printersga; dispositions = s .dispositions }
+moved s Macro q = record { echo = s .echo; sga = s .sga; rcte = s .rcte; bm = q; printersga = s .printersga; dispositions = s .dispositions }
+moved s PrinterSga q = record { echo = s .echo; sga = s .sga; rcte = s .rcte; bm = s .bm; printersga = q; dispositions = s .dispositions }
+moved s (Disposes d) q = record {
+  echo = s .echo;
+  sga = s .sga;
+  rcte = s .rcte;
+  bm = s .bm;
+  printersga = s .printersga;
+  dispositions = withDispositionState (s .dispositions) d q;
+}
 moved s Uncarried q = s
 
 abbrev pub allNo : Sides
-allNo = record { echo = No; sga = No; rcte = No; bm = No; printersga = No; naocrd = No }
+allNo = record {
+  echo = No;
+  sga = No;
+  rcte = No;
+  bm = No;
+  printersga = No;
+  dispositions = statesFrom (forEach (λ d. No));
+}
 
 -- ECHO is not agreed or asked for while RCTE is away from NO, nor the reverse
 abbrev pub mayEnable : Sides → Side → Bool
@@ -79,7 +109,7 @@ mayEnable s BulletinSga = true
 mayEnable s Rcte = isNo (s .echo)
 mayEnable s Macro = true
 mayEnable s PrinterSga = true
-mayEnable s Returns = true
+mayEnable s (Disposes d) = true
 mayEnable s Uncarried = false
 
 -- the clash that refuses an ask: it would enable the side from NO
@@ -107,6 +137,9 @@ declined false = Silent
 abbrev pub macrosInForce : End → Sides → Bool
 macrosInForce Printer s = isYesOrEnding (s .bm)
 macrosInForce Bulletin s = isYes (s .bm)
+
+abbrev pub dispositionInForce : Sides → Disposition → Bool
+dispositionInForce s d = isYes (dispositionState (s .dispositions) d)
 
 -- what a negotiation received comes to: a carried side follows the table; of an uncarried option a request is declined
 abbrev pub turned : Whose → Side → Heard → Turn

@@ -1,20 +1,47 @@
 // The sides that each end carries, their states, and ECHO against RCTE.
 ghost use mathlib.Core.Path.{_≡_};
+ghost use Rattle.codes.specs.Dispositions.{dispositionNumbered, ofDisposition};
 ghost use Rattle.negotiation.specs.Table.{isYes};
-ghost use Rattle.negotiation.specs.Carried.{printerSide, carriedSide, isCarried, stateOf, moved, allNo, mayEnable, clashes, macrosInForce};
+ghost use Rattle.negotiation.specs.Carried.{
+  printerSide,
+  carriedSide,
+  isCarried,
+  dispositionState,
+  withDispositionState,
+  stateOf,
+  moved,
+  allNo,
+  mayEnable,
+  clashes,
+  macrosInForce,
+  dispositionInForce,
+};
+use crate::DispositionStates;
 use crate::End;
 use crate::OptionState;
 use crate::Side;
 use crate::Sides;
 use crate::table;
 use codes::BM;
+use codes::Disposition;
 use codes::ECHO;
-use codes::NAOCRD;
+use codes::MaybeDisposition;
 use codes::RCTE;
 use codes::SGA;
 use codes::Whose;
 
-// What the printer end carries: four options on his side, two on ours.
+// The side of an option about output disposition; that of another option is not carried.
+fn disposing_side(option: u8) -> Side
+    ensures { λ r. ⌜ r ≡ ofDisposition Side.Uncarried Side.Disposes (dispositionNumbered option) ⌝ }
+{
+    let found = codes::disposition_numbered(option);
+    match found {
+        MaybeDisposition::Some(d) => Side::Disposes(d),
+        MaybeDisposition::None => Side::Uncarried,
+    }
+}
+
+// What the printer end carries: four options on his side, five on ours.
 fn printer_side(w: Whose, option: u8) -> Side
     ensures { λ r. ⌜ r ≡ printerSide w option ⌝ }
 {
@@ -28,8 +55,7 @@ fn printer_side(w: Whose, option: u8) -> Side
         },
         Whose::Ours => match option {
             SGA => Side::PrinterSga,
-            NAOCRD => Side::Returns,
-            _ => Side::Uncarried,
+            _ => disposing_side(option),
         },
     }
 }
@@ -53,8 +79,52 @@ pub fn is_carried(side: Side) -> bool
         Side::Rcte => true,
         Side::Macro => true,
         Side::PrinterSga => true,
-        Side::Returns => true,
+        Side::Disposes(_) => true,
         Side::Uncarried => false,
+    }
+}
+
+// The state of an option about output disposition.
+fn disposition_state(s: Sides, d: Disposition) -> OptionState
+    ensures { λ r. ⌜ r ≡ dispositionState (s .dispositions) d ⌝ }
+{
+    let states = s.dispositions;
+    match d {
+        Disposition::Naocrd => states.naocrd,
+        Disposition::Naolfd => states.naolfd,
+        Disposition::Naoffd => states.naoffd,
+        Disposition::Naohtd => states.naohtd,
+    }
+}
+
+fn with_disposition_state(s: DispositionStates, d: Disposition, q: OptionState) -> DispositionStates
+    ensures { λ r. ⌜ r ≡ withDispositionState s d q ⌝ }
+{
+    let naocrd = s.naocrd;
+    let naolfd = s.naolfd;
+    let naoffd = s.naoffd;
+    let naohtd = s.naohtd;
+    match d {
+        Disposition::Naocrd => states_of(q, naolfd, naoffd, naohtd),
+        Disposition::Naolfd => states_of(naocrd, q, naoffd, naohtd),
+        Disposition::Naoffd => states_of(naocrd, naolfd, q, naohtd),
+        Disposition::Naohtd => states_of(naocrd, naolfd, naoffd, q),
+    }
+}
+
+fn states_of(
+    naocrd: OptionState,
+    naolfd: OptionState,
+    naoffd: OptionState,
+    naohtd: OptionState,
+) -> DispositionStates
+    ensures { λ r. ⌜ r ≡ record { naocrd = naocrd; naolfd = naolfd; naoffd = naoffd; naohtd = naohtd } ⌝ }
+{
+    DispositionStates {
+        naocrd,
+        naolfd,
+        naoffd,
+        naohtd,
     }
 }
 
@@ -67,7 +137,7 @@ pub fn state_of(s: Sides, side: Side) -> OptionState
         Side::Rcte => s.rcte,
         Side::Macro => s.bm,
         Side::PrinterSga => s.printersga,
-        Side::Returns => s.naocrd,
+        Side::Disposes(d) => disposition_state(s, d),
         Side::Uncarried => OptionState::No,
     }
 }
@@ -78,9 +148,9 @@ fn sides_of(
     rcte: OptionState,
     bm: OptionState,
     printersga: OptionState,
-    naocrd: OptionState,
+    dispositions: DispositionStates,
 ) -> Sides
-    ensures { λ r. ⌜ r ≡ record { echo = echo; sga = sga; rcte = rcte; bm = bm; printersga = printersga; naocrd = naocrd } ⌝ }
+    ensures { λ r. ⌜ r ≡ record { echo = echo; sga = sga; rcte = rcte; bm = bm; printersga = printersga; dispositions = dispositions } ⌝ }
 {
     Sides {
         echo,
@@ -88,7 +158,7 @@ fn sides_of(
         rcte,
         bm,
         printersga,
-        naocrd,
+        dispositions,
     }
 }
 
@@ -96,13 +166,19 @@ fn sides_of(
 pub fn all_no() -> Sides
     ensures { λ r. ⌜ r ≡ allNo ⌝ }
 {
+    let dispositions = DispositionStates {
+        naocrd: OptionState::No,
+        naolfd: OptionState::No,
+        naoffd: OptionState::No,
+        naohtd: OptionState::No,
+    };
     Sides {
         echo: OptionState::No,
         sga: OptionState::No,
         rcte: OptionState::No,
         bm: OptionState::No,
         printersga: OptionState::No,
-        naocrd: OptionState::No,
+        dispositions,
     }
 }
 
@@ -115,14 +191,17 @@ pub fn moved(s: Sides, side: Side, q: OptionState) -> Sides
     let rcte = s.rcte;
     let bm = s.bm;
     let printersga = s.printersga;
-    let naocrd = s.naocrd;
+    let dispositions = s.dispositions;
     match side {
-        Side::Echo => sides_of(q, sga, rcte, bm, printersga, naocrd),
-        Side::BulletinSga => sides_of(echo, q, rcte, bm, printersga, naocrd),
-        Side::Rcte => sides_of(echo, sga, q, bm, printersga, naocrd),
-        Side::Macro => sides_of(echo, sga, rcte, q, printersga, naocrd),
-        Side::PrinterSga => sides_of(echo, sga, rcte, bm, q, naocrd),
-        Side::Returns => sides_of(echo, sga, rcte, bm, printersga, q),
+        Side::Echo => sides_of(q, sga, rcte, bm, printersga, dispositions),
+        Side::BulletinSga => sides_of(echo, q, rcte, bm, printersga, dispositions),
+        Side::Rcte => sides_of(echo, sga, q, bm, printersga, dispositions),
+        Side::Macro => sides_of(echo, sga, rcte, q, printersga, dispositions),
+        Side::PrinterSga => sides_of(echo, sga, rcte, bm, q, dispositions),
+        Side::Disposes(d) => {
+            let after = with_disposition_state(dispositions, d, q);
+            sides_of(echo, sga, rcte, bm, printersga, after)
+        }
         Side::Uncarried => s,
     }
 }
@@ -139,7 +218,7 @@ pub fn may_enable(s: Sides, side: Side) -> bool
         Side::Rcte => table::is_no(echo),
         Side::Macro => true,
         Side::PrinterSga => true,
-        Side::Returns => true,
+        Side::Disposes(_) => true,
         Side::Uncarried => false,
     }
 }
@@ -159,11 +238,10 @@ pub fn rcte_in_force(s: Sides) -> bool
     table::is_yes(state)
 }
 
-pub fn returns_in_force(s: Sides) -> bool
-    ensures { λ r. ⌜ r ≡ isYes (s .naocrd) ⌝ }
+pub fn disposition_in_force(s: Sides, d: Disposition) -> bool
+    ensures { λ r. ⌜ r ≡ dispositionInForce s d ⌝ }
 {
-    let state = s.naocrd;
-    table::is_yes(state)
+    table::is_yes(disposition_state(s, d))
 }
 
 // BM is in force at YES; at the printer end until the other end has said that it stopped.

@@ -1,5 +1,6 @@
 // Option negotiation by RFC 1143: six states a side, what is received and what is asked.
 use codes::Code;
+use codes::Disposition;
 use codes::Whose;
 
 mod asks;
@@ -13,11 +14,11 @@ pub use asks::asking_of;
 pub use asks::heard_by;
 pub use asks::put_reply;
 pub use carried::all_no;
+pub use carried::disposition_in_force;
 pub use carried::echo_in_force;
 pub use carried::macros_in_force;
 pub use carried::moved;
 pub use carried::rcte_in_force;
-pub use carried::returns_in_force;
 pub use table::is_yes;
 pub use table::is_yes_or_ending;
 
@@ -77,16 +78,24 @@ pub enum Side {
     Rcte,
     Macro,
     PrinterSga,
-    Returns,
+    Disposes(Disposition),
     Uncarried,
 }
 
-// The states of the six carried sides: what the bulletin end performs, then what the printer end does.
+// The states of the options about output disposition, which the printer end performs.
+pub struct DispositionStates {
+    pub naocrd: OptionState,
+    pub naolfd: OptionState,
+    pub naoffd: OptionState,
+    pub naohtd: OptionState,
+}
+
+// The states of the nine carried sides: what the bulletin end performs, then what the printer end does.
 pub struct Sides {
     pub echo: OptionState,
     pub sga: OptionState,
     pub rcte: OptionState,
     pub bm: OptionState,
     pub printersga: OptionState,
-    pub naocrd: OptionState,
+    pub dispositions: DispositionStates,
 }

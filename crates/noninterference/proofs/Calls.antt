@@ -179,7 +179,7 @@ pub same-kept : (n : Later) {ms : List Bool} (s t : PrinterState) (c : Call) →
 same-kept n s t (network b p w) v (related-ends r {e = e} {f = f} a) = planned-kept n (network-call r b p w) e f v a
 same-kept n s t (key k p w) v (related-ends r {e = e} {f = f} a) = key-kept n false r k k p w p w e f refl refl refl v a
 same-kept n s t (ask o y p w) v (related-ends r {e = e} {f = f} a) = planned-kept n (ask-call r o y p w) e f v a
-same-kept n s t (suggest x p w) v (related-ends r {e = e} {f = f} a) = planned-kept n (suggest-call r x p w) e f v a
+same-kept n s t (suggest o x p w) v (related-ends r {e = e} {f = f} a) = planned-kept n (suggest-call r o x p w) e f v a
 
 pub replaced-kept : (n : Later) {ms : List Bool} (s t : PrinterState) {k l : Key} (p w p′ w′ : ℕ) → noRoom p w ≡ noRoom p′ w′ → Typed k → Typed l
     → Waits (rcteInForce s) (s .rcte) → RelatedEnds ms s t → Keeping n true ms s t (key k p w) (key l p′ w′)

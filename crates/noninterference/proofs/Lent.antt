@@ -27,13 +27,13 @@ unfolding called networkCall keyCall askCall suggestCall
 same-call s t u (network b p w) e = rw e
 same-call s t u (key k p w) e = rw e
 same-call s t u (ask o y p w) e = rw e
-same-call s t u (suggest v p w) e = rw e
+same-call s t u (suggest o v p w) e = rw e
 
 accepts-too : (t u : Tails) (c : Call) (a : CallEffect) → accepts (inTails t c) a ≡ accepts (inTails u c) a
 accepts-too t u (network b p w) a = refl
 accepts-too t u (key k p w) a = refl
 accepts-too t u (ask o y p w) a = refl
-accepts-too t u (suggest v p w) a = refl
+accepts-too t u (suggest o v p w) a = refl
 
 -- equally many bytes leave equal tails
 left : (whole : Tails) {t t′ : Tails} → t ≡ t′ → {a b : CallEffect} → SameSeen a b → SameSent a b

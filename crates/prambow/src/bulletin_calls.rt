@@ -31,7 +31,7 @@ use session_arrays::numbers;
 
 #[no_mangle]
 pub extern "C" fn prambow_bulletin_fresh_arrays(
-    small: &mut [u8; 11],
+    small: &mut [u8; 23],
     counts: &mut [usize; 1],
     body: &mut [u8; BODY_ROOM],
     statuses: &mut [u8; 256],
@@ -46,7 +46,7 @@ pub extern "C" fn prambow_bulletin_fresh_arrays(
 
 #[no_mangle]
 pub extern "C" fn prambow_bulletin_network_byte_arrays(
-    small: &mut [u8; 11],
+    small: &mut [u8; 23],
     counts: &mut [usize; 1],
     body: &mut [u8; BODY_ROOM],
     statuses: &mut [u8; 256],
@@ -67,7 +67,7 @@ pub extern "C" fn prambow_bulletin_network_byte_arrays(
 // behind one that gave a note. One plain byte needs no loop.
 #[no_mangle]
 pub extern "C" fn prambow_bulletin_network_bytes_arrays(
-    small: &mut [u8; 11],
+    small: &mut [u8; 23],
     counts: &mut [usize; 1],
     body: &mut [u8; BODY_ROOM],
     statuses: &mut [u8; 256],
@@ -104,7 +104,7 @@ pub extern "C" fn prambow_bulletin_network_bytes_arrays(
 
 #[no_mangle]
 pub extern "C" fn prambow_bulletin_ask_arrays(
-    small: &mut [u8; 11],
+    small: &mut [u8; 23],
     counts: &mut [usize; 1],
     body: &mut [u8; BODY_ROOM],
     statuses: &mut [u8; 256],
@@ -123,25 +123,26 @@ pub extern "C" fn prambow_bulletin_ask_arrays(
 
 #[no_mangle]
 pub extern "C" fn prambow_bulletin_suggest_arrays(
-    small: &mut [u8; 11],
+    small: &mut [u8; 23],
     counts: &mut [usize; 1],
     body: &mut [u8; BODY_ROOM],
     statuses: &mut [u8; 256],
     marks: &mut [u16; 256],
     cells: &mut [u8; ROOM],
+    option: u8,
     v: u8,
     wire: &mut [u8],
 ) -> Outcome
-    ensures { λ r. ⌜ RefinesOnBulletinArraysWire (λ t. suggestCall t v) (lentBulletin small counts body statuses marks cells) (lent wire) r ⌝ }
+    ensures { λ r. ⌜ RefinesOnBulletinArraysWire (λ t. suggestCall t option v) (lentBulletin small counts body statuses marks cells) (lent wire) r ⌝ }
 {
     let s = bulletin_arrays::decoded(small, counts, body, statuses, marks, cells);
-    let a = calls::suggest(s, v, wire);
+    let a = calls::suggest(s, option, v, wire);
     bulletin_arrays::kept(a, small, counts, body, statuses, marks, cells)
 }
 
 #[no_mangle]
 pub extern "C" fn prambow_bulletin_order_arrays(
-    small: &mut [u8; 11],
+    small: &mut [u8; 23],
     counts: &mut [usize; 1],
     body: &mut [u8; BODY_ROOM],
     statuses: &mut [u8; 256],
@@ -161,7 +162,7 @@ pub extern "C" fn prambow_bulletin_order_arrays(
 
 #[no_mangle]
 pub extern "C" fn prambow_bulletin_define_arrays(
-    small: &mut [u8; 11],
+    small: &mut [u8; 23],
     counts: &mut [usize; 1],
     body: &mut [u8; BODY_ROOM],
     statuses: &mut [u8; 256],
@@ -180,7 +181,7 @@ pub extern "C" fn prambow_bulletin_define_arrays(
 
 #[no_mangle]
 pub extern "C" fn prambow_bulletin_use_macro_arrays(
-    small: &mut [u8; 11],
+    small: &mut [u8; 23],
     counts: &mut [usize; 1],
     body: &mut [u8; BODY_ROOM],
     statuses: &mut [u8; 256],
@@ -199,7 +200,7 @@ pub extern "C" fn prambow_bulletin_use_macro_arrays(
 // The item is a pair of numbers, as a key; one that stands for none is refused with code 3.
 #[no_mangle]
 pub extern "C" fn prambow_bulletin_text_item_arrays(
-    small: &mut [u8; 11],
+    small: &mut [u8; 23],
     counts: &mut [usize; 1],
     body: &mut [u8; BODY_ROOM],
     statuses: &mut [u8; 256],
@@ -220,13 +221,13 @@ pub extern "C" fn prambow_bulletin_text_item_arrays(
 // How the last DEFINE of a byte stands. It looks at BM's state and the statuses alone.
 #[no_mangle]
 pub extern "C" fn prambow_bulletin_macro_status_arrays(
-    small: &[u8; 11],
+    small: &[u8; 23],
     statuses: &[u8; 256],
     x: u8,
 ) -> u8
     ensures { λ r. ⌜ SaysStatus x (now (small .entry)) (now (statuses .entry)) r ⌝ }
 {
-    let sides = numbers::sides_of(small[0], small[1], small[2], small[3], small[4], small[5]);
+    let sides = bulletin_arrays::sides_in(small);
     if negotiation::macros_in_force(End::Bulletin, sides) {
         let status = sent_macros::status_at(statuses, x);
         return sent_macros::status_number(status);
@@ -234,18 +235,21 @@ pub extern "C" fn prambow_bulletin_macro_status_arrays(
     0
 }
 
-// Who handles carriage returns, and how. It looks at the small parts alone.
+// Of each option about output disposition who handles its character, and how. It looks at the small parts alone.
 #[no_mangle]
-pub extern "C" fn prambow_bulletin_report_arrays(small: &[u8; 11]) -> Reported
+pub extern "C" fn prambow_bulletin_report_arrays(small: &[u8; 23]) -> Reported
     ensures { λ r. ⌜ ReportsBulletin (now (small .entry)) r ⌝ }
 {
-    numbers::reported(small[5], small[9], small[10])
+    let sides = bulletin_arrays::sides_in(small);
+    let values = bulletin_arrays::values_in(small);
+    numbers::reported(sides, values)
 }
 
 // Whether output waits: 0 ready, 1 waiting.
 #[no_mangle]
-pub extern "C" fn prambow_bulletin_output_arrays(small: &[u8; 11]) -> u8
+pub extern "C" fn prambow_bulletin_output_arrays(small: &[u8; 23]) -> u8
     ensures { λ r. ⌜ SaysOutput (now (small .entry)) r ⌝ }
 {
-    numbers::flag_number(small[8] != 0)
+    let waits = bulletin_arrays::waits_in(small);
+    numbers::flag_number(disposition::is_waiting(waits))
 }

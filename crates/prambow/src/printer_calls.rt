@@ -24,7 +24,7 @@ use session_arrays::printer_runs;
 
 #[no_mangle]
 pub extern "C" fn prambow_printer_fresh_arrays(
-    small: &mut [u8; 13],
+    small: &mut [u8; 22],
     classes: &mut [u16; 2],
     counts: &mut [usize; 3],
     body: &mut [u8; BODY_ROOM],
@@ -51,7 +51,7 @@ pub extern "C" fn prambow_printer_fresh_arrays(
 
 #[no_mangle]
 pub extern "C" fn prambow_printer_network_byte_arrays(
-    small: &mut [u8; 13],
+    small: &mut [u8; 22],
     classes: &mut [u16; 2],
     counts: &mut [usize; 3],
     body: &mut [u8; BODY_ROOM],
@@ -93,7 +93,7 @@ pub extern "C" fn prambow_printer_network_byte_arrays(
 // behind one that gave a note. One plain byte needs no loop.
 #[no_mangle]
 pub extern "C" fn prambow_printer_network_bytes_arrays(
-    small: &mut [u8; 13],
+    small: &mut [u8; 22],
     classes: &mut [u16; 2],
     counts: &mut [usize; 3],
     body: &mut [u8; BODY_ROOM],
@@ -135,7 +135,7 @@ pub extern "C" fn prambow_printer_network_bytes_arrays(
 // The key is a pair of numbers; one that stands for no key is refused with code 3.
 #[no_mangle]
 pub extern "C" fn prambow_printer_press_arrays(
-    small: &mut [u8; 13],
+    small: &mut [u8; 22],
     classes: &mut [u16; 2],
     counts: &mut [usize; 3],
     body: &mut [u8; BODY_ROOM],
@@ -177,7 +177,7 @@ pub extern "C" fn prambow_printer_press_arrays(
 
 #[no_mangle]
 pub extern "C" fn prambow_printer_ask_arrays(
-    small: &mut [u8; 13],
+    small: &mut [u8; 22],
     classes: &mut [u16; 2],
     counts: &mut [usize; 3],
     body: &mut [u8; BODY_ROOM],
@@ -218,7 +218,7 @@ pub extern "C" fn prambow_printer_ask_arrays(
 
 #[no_mangle]
 pub extern "C" fn prambow_printer_suggest_arrays(
-    small: &mut [u8; 13],
+    small: &mut [u8; 22],
     classes: &mut [u16; 2],
     counts: &mut [usize; 3],
     body: &mut [u8; BODY_ROOM],
@@ -226,11 +226,12 @@ pub extern "C" fn prambow_printer_suggest_arrays(
     cells: &mut [u8; ROOM],
     waiting: &mut [u16; WAIT_ROOM],
     gathered: &mut [u8; GATHER_ROOM],
+    option: u8,
     v: u8,
     paper: &mut [u8],
     wire: &mut [u8],
 ) -> Outcome
-    ensures { λ r. ⌜ RefinesOnPrinterArrays (λ t. suggestCall t v) (lentPrinter small classes counts body marks cells waiting gathered) (lent paper) (lent wire) r ⌝ }
+    ensures { λ r. ⌜ RefinesOnPrinterArrays (λ t. suggestCall t option v) (lentPrinter small classes counts body marks cells waiting gathered) (lent paper) (lent wire) r ⌝ }
 {
     let s = printer_arrays::decoded(
         small,
@@ -242,7 +243,7 @@ pub extern "C" fn prambow_printer_suggest_arrays(
         waiting,
         gathered,
     );
-    let a = calls::suggest(s, v, paper, wire);
+    let a = calls::suggest(s, option, v, paper, wire);
     printer_arrays::kept(
         a,
         small,
@@ -256,12 +257,14 @@ pub extern "C" fn prambow_printer_suggest_arrays(
     )
 }
 
-// Who handles carriage returns, and how. It looks at the small parts alone.
+// Of each option about output disposition who handles its character, and how. It looks at the small parts alone.
 #[no_mangle]
-pub extern "C" fn prambow_printer_report_arrays(small: &[u8; 13]) -> Reported
+pub extern "C" fn prambow_printer_report_arrays(small: &[u8; 22]) -> Reported
     ensures { λ r. ⌜ ReportsPrinter (now (small .entry)) r ⌝ }
 {
-    numbers::reported(small[5], small[11], small[12])
+    let sides = printer_arrays::sides_in(small);
+    let values = printer_arrays::values_in(small);
+    numbers::reported(sides, values)
 }
 
 // How many keys wait. It looks at the counts alone.

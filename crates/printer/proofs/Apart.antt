@@ -4,7 +4,7 @@ use mathlib.Core.Bool.{Bool, true, false}
 use Rattle.negotiation.specs.declared.End.{End}
 use Rattle.negotiation.specs.declared.OptionState.{OptionState}
 use Rattle.negotiation.specs.declared.Side.{Side}
-use Rattle.negotiation.specs.declared.Side.the-variants.{Echo, BulletinSga, Rcte, Macro, PrinterSga, Returns, Uncarried}
+use Rattle.negotiation.specs.declared.Side.the-variants.{Echo, BulletinSga, Rcte, Macro, PrinterSga, Disposes, Uncarried}
 use Rattle.negotiation.specs.Table.{isYes}
 use Rattle.negotiation.specs.Carried.{moved}
 use Rattle.negotiation.specs.Apart.{Reached}
@@ -28,7 +28,7 @@ moved-as : (s : PrinterState) (side : Side) (q : OptionState) → moved (s .side
 unfolding sideMoved
 moved-as s Macro q = refl
 moved-as s Rcte q = rcte-as (rcteInForce s) (isYes q) (withSides s (moved (s .sides) Rcte q))
-moved-as s Returns q = refl
+moved-as s (Disposes d) q = refl
 moved-as s Echo q = refl
 moved-as s BulletinSga q = refl
 moved-as s PrinterSga q = refl

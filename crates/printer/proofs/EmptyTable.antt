@@ -3,7 +3,7 @@ use mathlib.Core.Path.{refl, sym, ap, _∙_}
 use mathlib.Core.Bool.{Bool, true, false, true≢false}
 use Rattle.negotiation.specs.declared.OptionState.{OptionState}
 use Rattle.negotiation.specs.declared.Side.{Side}
-use Rattle.negotiation.specs.declared.Side.the-variants.{Echo, BulletinSga, Rcte, Macro, PrinterSga, Returns, Uncarried}
+use Rattle.negotiation.specs.declared.Side.the-variants.{Echo, BulletinSga, Rcte, Macro, PrinterSga, Disposes, Uncarried}
 use Rattle.negotiation.specs.Table.{isYes, isYesOrEnding}
 use Rattle.negotiation.specs.Carried.{moved}
 use Rattle.printer.specs.State.{PrinterState, fresh, withSides, rcteInForce}
@@ -21,7 +21,7 @@ side-empty : (s : PrinterState) (side : Side) (q : OptionState) → EmptyWhileOf
 unfolding sideMoved
 side-empty s Macro q h = λ off. rw off
 side-empty s Rcte q h = rcte-empty (rcteInForce s) (isYes q) (withSides s (moved (s .sides) Rcte q)) h
-side-empty s Returns q h = h
+side-empty s (Disposes d) q h = h
 side-empty s Echo q h = h
 side-empty s BulletinSga q h = h
 side-empty s PrinterSga q h = h

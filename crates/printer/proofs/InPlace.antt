@@ -16,7 +16,7 @@ use Rattle.codes.specs.declared.Note.the-variants.{Clear}
 use Rattle.negotiation.specs.declared.End.{End}
 use Rattle.negotiation.specs.declared.OptionState.{OptionState}
 use Rattle.negotiation.specs.declared.Side.{Side}
-use Rattle.negotiation.specs.declared.Side.the-variants.{Echo, BulletinSga, Rcte, Macro, PrinterSga, Returns, Uncarried}
+use Rattle.negotiation.specs.declared.Side.the-variants.{Echo, BulletinSga, Rcte, Macro, PrinterSga, Disposes, Uncarried}
 use Rattle.negotiation.specs.declared.Sides.{Sides}
 use Rattle.negotiation.specs.Carried.{moved, replyBytes, heardBy}
 use Rattle.reader.specs.declared.Item.{Item}
@@ -68,7 +68,7 @@ module _ (s : PrinterState) (next : Phase) where
   side-moves Rcte q reply h = absurd (false≢true h)
   side-moves Macro q reply h = absurd (false≢true h)
   side-moves PrinterSga q reply h = rw append-nil
-  side-moves Returns q reply h = absurd (false≢true h)
+  side-moves (Disposes d) q reply h = absurd (false≢true h)
   side-moves Uncarried q reply h = rw append-nil
 
   item-does : (i : Item) → Does s (itemRead (inNext s next) i) (itemInPlace (s .sides) (s .reader .phase) next (s .rcte .held) i)

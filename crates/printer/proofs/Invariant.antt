@@ -8,7 +8,10 @@ use Prim.Native.Nat.{ℕ}
 use lib.ListN.{drop}
 use Rattle.lists.proofs.Lengths.{either}
 use Rattle.codes.specs.Answers.{Guard, guarded}
+use Rattle.codes.specs.Dispositions.{dispositionNumbered}
 use Rattle.codes.specs.Telnet.{DS}
+use Rattle.codes.specs.declared.Disposition.{Disposition}
+use Rattle.codes.proofs.Entries.{found-cases}
 use Rattle.codes.specs.declared.Verb.{Verb}
 use Rattle.negotiation.specs.declared.OptionState.{OptionState}
 use Rattle.negotiation.specs.declared.End.{End}
@@ -65,15 +68,15 @@ module _ (P : PrinterState → Type 0) (k : Steps P) where
     macro-kept body (MacroBody.Readable (Define x)) on = k .defines s x (defineRest body) on h
     macro-kept body (MacroBody.Readable (Literal x)) on = data-kept x
 
-    value-kept : (b : ValueBody) → Leaves (valueRead s b)
-    value-kept ValueBody.Unreadable = h
-    value-kept (ValueBody.Readable v) = k .others refl refl h
+    value-kept : (d : Disposition) (b : ValueBody) → Leaves (valueRead s d b)
+    value-kept d ValueBody.Unreadable = h
+    value-kept d (ValueBody.Readable v) = k .others refl refl h
 
     body-kept : (marred : Bool) (body : List ℕ) → Leaves (bodyRead s marred body)
     unfolding bodyRead
     body-kept marred body =
         checked-cases (λ (c : Checked). Leaves (bodyHandled s body c)) End.Printer (s .sides) (λ n. h) (λ on. rcte-kept (rcteBody body))
-        (λ on. value-kept (valueBody DS body)) (λ on. macro-kept body (macroBody body) on) marred body
+        (λ d on. value-kept d (valueBody d DS body)) (λ on. macro-kept body (macroBody body) on) marred body
 
     asked-kept : (option way : ℕ) → Leaves (askOf s option (askedWhose way) (askedSide End.Printer option way) (askedEnable way) .effect)
     asked-kept option way = go (askingOf (s .sides) side (askedEnable way)) refl
@@ -123,7 +126,7 @@ module _ (P : PrinterState → Type 0) (k : Steps P) where
   call-kept s (key i p w) h = guarded-kept s h _ _ (either Leaves (rcteInForce s) (k .others refl refl h) h)
   call-kept s (ask o y p w) h =
       guarded-kept s h _ _ (asked-kept s h o y)
-  call-kept s (suggest v p w) h = guarded-kept s h _ _ (k .others refl refl h)
+  call-kept s (suggest o v p w) h = guarded-kept s h _ _ (found-cases (λ (a : CallEffect). Leaves (a .effect)) h (λ d. guarded-kept s h _ _ (k .others refl refl h)) (dispositionNumbered o))
 
   -- and so does every answer to a list of calls
   pub answers-kept : (s : PrinterState) (cs : List Call) → P s → (a : CallEffect) → List·Memᴰ a (answersFrom s cs) → Leaves (a .effect)

@@ -63,7 +63,7 @@ pub onward : (s : PrinterState) (c : Call) → Held s → Onward s (cond (accept
 onward s (network b p w) h = planned-onward s (network-call s b p w) h
 onward s (key k p w) h = key-onward s k p w h
 onward s (ask o y p w) h = planned-onward s (ask-call s o y p w) h
-onward s (suggest v p w) h = planned-onward s (suggest-call s v p w) h
+onward s (suggest o v p w) h = planned-onward s (suggest-call s o v p w) h
 
 record Session (s : PrinterState) (cs : List Call) : Type 0 where
   waits : Held (reached s cs)

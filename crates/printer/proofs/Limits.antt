@@ -10,22 +10,26 @@ use lib.ListN.{length, length-append}
 use Rattle.lists.proofs.Lengths.{chosen, either, every-replicate}
 use Rattle.lists.proofs.Tables.{both-right}
 use Rattle.codes.specs.Answers.{paperRoom, noRoom, guarded}
-use Rattle.codes.specs.Telnet.{NAOCRD, DR}
+use Rattle.codes.specs.Dispositions.{optionNumber, dispositionNumbered}
+use Rattle.codes.specs.Telnet.{DR}
 use Rattle.codes.specs.declared.Code.{Code}
+use Rattle.codes.specs.declared.Code.the-variants.{NotCarried}
+use Rattle.codes.specs.declared.Disposition.{Disposition}
+use Rattle.codes.proofs.Entries.{found-cases}
 use Rattle.codes.specs.declared.Whose.{Whose}
 use Rattle.wire.specs.Frames.{frame}
 use Rattle.keys.specs.Keys.{badCommand}
 use Rattle.negotiation.specs.declared.End.{End}
 use Rattle.negotiation.specs.declared.Side.{Side}
-use Rattle.negotiation.specs.Carried.{replyBytes, askedSide, askedWhose, askedEnable}
+use Rattle.negotiation.specs.Carried.{replyBytes, dispositionInForce, askedSide, askedWhose, askedEnable}
 use Rattle.reader.specs.Reading.{isBetween}
 use Rattle.bodies.specs.ValueBodies.{isBadValue}
 use Rattle.received_macros.specs.Texts.{Entry, plain, text, entryOf}
 use Rattle.rcte.specs.Control.{isFull, pressed}
-use Rattle.disposition.specs.Returns.{withDr}
-use Rattle.printer.specs.State.{PrinterState, fresh, rcteInForce, echoInForce, naocrdInForce, bmInForce, Effect, CallEffect, refused}
+use Rattle.disposition.specs.ByOption.{withDr, valuesOf, withValuesOf}
+use Rattle.printer.specs.State.{PrinterState, fresh, rcteInForce, echoInForce, bmInForce, Effect, CallEffect, refused}
 use Rattle.printer.specs.Network.{byteRead, bytesRead, entryRead, networkRead}
-use Rattle.printer.specs.Calls.{networkCall, keyTyped, keyCall, askOf, askCall, suggestCall}
+use Rattle.printer.specs.Calls.{networkCall, keyTyped, keyCall, askOf, askCall, suggestOf, suggestCall}
 use Rattle.printer.specs.Session.{Call, network, key, ask, suggest, called, answersFrom}
 use Rattle.printer.specs.Limits.{textLimit, Sized, InBytes, Limited, Fits, NetworkFits, KeyFits, MoveFits, SuggestionFits, CallFits, FreshLimited, NetworkKeeps, KeyKeeps, MoveKeeps, OfBytes, CallKeeps, Within, SessionWithin}
 use Rattle.received_macros.specs.Refinement.{textOf}
@@ -101,7 +105,7 @@ move-keeps s side q h = moves s side q .kept h
 
 pub suggestion-fits : SuggestionFits
 unfolding frame flatMap
-suggestion-fits v = simp length-append (omega (arith, coded-long NAOCRD, coded-long DR, coded-long v))
+suggestion-fits d v = simp length-append (omega (arith, coded-long (optionNumber d), coded-long DR, coded-long v))
 
 -- what is claimed of the answer of a call c on s
 record Answered (s : PrinterState) (c : Call) (a : CallEffect) : Type 0 where
@@ -121,6 +125,19 @@ module _ (s : PrinterState) (c : Call) where
         kept = λ b h. move-keeps s side q h;
       })
 
+  -- a suggestion changes this end's value, or is refused
+  suggests : (v : ℕ) (d : Disposition) → Answered s c (suggestOf s v d)
+  unfolding guarded
+  suggests v d =
+      let values = valuesOf (s .values) d in
+      either (Answered s c) (not (dispositionInForce (s .sides) d)) (refuses _)
+      (either (Answered s c) (isBadValue d v) (refuses _)
+      (either (Answered s c) (eqb v (values .dr)) (refuses _)
+      (record {
+        fits = λ z. record { paper = lit≤ tt; wire = suggestion-fits d v };
+        kept = λ b h. with-values h (withValuesOf (s .values) d (withDr values v));
+      })))
+
 answers : (s : PrinterState) (c : Call) → Answered s c (called s c)
 unfolding called networkCall keyCall askCall suggestCall guarded
 answers s (network b p w) =
@@ -136,13 +153,9 @@ answers s (key k p w) =
 answers s (ask o y p w) =
     let c = ask o y p w in
     either (Answered s c) (noRoom p w) (refuses s c _) (asks s c (askedWhose y) o (askedSide End.Printer o y) (askedEnable y))
-answers s (suggest v p w) =
-    let c = suggest v p w in
-    either (Answered s c) (noRoom p w) (refuses s c _)
-    (either (Answered s c) (not (naocrdInForce s)) (refuses s c _)
-    (either (Answered s c) (isBadValue v) (refuses s c _)
-    (either (Answered s c) (eqb v (s .values .dr)) (refuses s c _)
-    (record { fits = λ z. record { paper = lit≤ tt; wire = suggestion-fits v }; kept = λ b h. with-values h (withDr (s .values) v) }))))
+answers s (suggest o v p w) =
+    let c = suggest o v p w in
+    either (Answered s c) (noRoom p w) (refuses s c _) (found-cases (Answered s c) (refuses s c NotCarried) (suggests s c v) (dispositionNumbered o))
 
 pub call-fits : CallFits
 call-fits s c z = answers s c .fits z

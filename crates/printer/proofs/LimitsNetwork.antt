@@ -10,6 +10,7 @@ use lib.ListN.{length, drop, length-append}
 use lib.Seq.{getD-drop}
 use Rattle.lists.proofs.Lengths.{chosen, either, every-set, every-replicate}
 use Rattle.codes.specs.Telnet.{BM, ACCEPT, REFUSE, DS}
+use Rattle.codes.specs.declared.Disposition.{Disposition}
 use Rattle.codes.specs.declared.Note.{Note}
 use Rattle.codes.specs.declared.Note.the-variants.{Unreadable, Stray}
 use Rattle.codes.specs.declared.Verb.{Verb}
@@ -20,7 +21,7 @@ use Rattle.negotiation.specs.declared.End.{End}
 use Rattle.negotiation.specs.declared.Sides.{Sides}
 use Rattle.negotiation.specs.declared.OptionState.{OptionState}
 use Rattle.negotiation.specs.declared.Side.{Side}
-use Rattle.negotiation.specs.declared.Side.the-variants.{Echo, BulletinSga, Rcte, Macro, PrinterSga, Returns, Uncarried}
+use Rattle.negotiation.specs.declared.Side.the-variants.{Echo, BulletinSga, Rcte, Macro, PrinterSga, Disposes, Uncarried}
 use Rattle.negotiation.specs.Table.{isYes, isYesOrEnding}
 use Rattle.negotiation.specs.Carried.{moved, replyBytes, heardBy}
 use Rattle.reader.specs.declared.Item.{Item}
@@ -39,8 +40,8 @@ use Rattle.received_macros.specs.Texts.{plain, Table, noMacros, entryOf, isItse
 use Rattle.rcte.specs.Taking.{gatherRoom}
 use Rattle.rcte.specs.Control as control
 use Rattle.rcte.specs.Control.{RcteEffect, waitRoom, started, holding, commanded, ordersNow, rcteEnded}
-use Rattle.disposition.specs.declared.Values.{Values}
-use Rattle.disposition.specs.Returns.{unspoken, withDs}
+use Rattle.disposition.specs.declared.AllValues.{AllValues}
+use Rattle.disposition.specs.ByOption.{unspoken, withDs, valuesOf, withValuesOf}
 use Rattle.subnegotiation.specs.declared.Checked.{Checked}
 use Rattle.subnegotiation.specs.declared.Checked.the-variants.{Noted}
 use Rattle.subnegotiation.specs.Checks.{optionChecked, checked}
@@ -76,7 +77,7 @@ module _ {s : PrinterState} (h : Limited s) where
   with-sides : (x : Sides) → Limited (withSides s x)
   with-sides x = limited (h .sized .waiting) (h .sized .gathered) (h .sized .body) (h .bytewise .body) texts-of
 
-  pub with-values : (x : Values) → Limited (withValues s x)
+  pub with-values : (x : AllValues) → Limited (withValues s x)
   with-values x = limited (h .sized .waiting) (h .sized .gathered) (h .sized .body) (h .bytewise .body) texts-of
 
   pub with-rcte : (x : control.RcteState) → length (x .waiting) ≤ waitRoom → length (x .gathered) ≤ gatherRoom → Limited (withRcte s x)
@@ -140,9 +141,9 @@ moves s Macro q =
     let t = cond (isYesOrEnding q) (s .table) noMacros in
     let none : AllShort noMacros = every-replicate (λ e. Short (textOf e)) plain 256 plain no-text no-text in
     sending 0 (withTable (withSides s x) t) (λ h. with-table (with-sides h x) t (either AllShort (isYesOrEnding q) (texts-of h) none)) [] (omega arith)
-moves s Returns q =
-    let x = moved (s .sides) Returns q in
-    let v = cond (isYes q) (s .values) unspoken in
+moves s (Disposes d) q =
+    let x = moved (s .sides) (Disposes d) q in
+    let v = cond (isYes q) (s .values) (withValuesOf (s .values) d unspoken) in
     sending 0 (withValues (withSides s x) v) (λ h. with-values (with-sides h x) v) [] (omega arith)
 moves s Echo q = turns s (moved (s .sides) Echo q)
 moves s BulletinSga q = turns s (moved (s .sides) BulletinSga q)
@@ -200,14 +201,16 @@ module _ {H : Type 0} (n : ℕ) (ten : 10 ≤ n) (s : PrinterState) (h : H → L
       sending n (withTable s t) (λ y. with-table (h y) t (defines (s .table) x rest (bytes y) (texts-of (h y)))) (verdictBytes v x) (omega (arith, verdict-long v x))
   macros body (MacroBody.Readable (Literal x)) i = data-step n s h x
 
-  values : (b : ValueBody) → Step (s .rcte) (s .reader) 1 n H (valueRead s b)
-  values ValueBody.Unreadable = noting n s h Unreadable
-  values (ValueBody.Readable v) = sending n (withValues s (withDs (s .values) v)) (λ y. with-values (h y) (withDs (s .values) v)) [] (omega arith)
+  values : (d : Disposition) (b : ValueBody) → Step (s .rcte) (s .reader) 1 n H (valueRead s d b)
+  values d ValueBody.Unreadable = noting n s h Unreadable
+  values d (ValueBody.Readable v) =
+      let x = withValuesOf (s .values) d (withDs (valuesOf (s .values) d) v) in
+      sending n (withValues s x) (λ y. with-values (h y) x) [] (omega arith)
 
   handles : (body : List ℕ) (c : Checked) → (H → InBytes body) → Step (s .rcte) (s .reader) 1 n H (bodyHandled s body c)
   handles body (Noted note) i = noting n s h note
   handles body Checked.Rcte i = rctes (rcteBody body)
-  handles body Checked.Returns i = values (valueBody DS body)
+  handles body (Checked.Disposes d) i = values d (valueBody d DS body)
   handles body Checked.Macro i = macros body (macroBody body) i
 
 -- the bound of a body that is not empty is enough for its reply

@@ -5,9 +5,13 @@ use mathlib.Core.List.{List, [], _∷_, _++_}
 use Prim.Native.Nat.{ℕ}
 use lib.ListN.{drop}
 use Rattle.codes.specs.Answers.{noRoom, firstNote, Guard, refusedIf, guarded}
+use Rattle.codes.specs.Dispositions.{dispositionNumbered, ofDisposition}
 use Rattle.codes.specs.Telnet.{DS, DR, whoseOf, enables}
 use Rattle.codes.specs.declared.Code.{Code}
-use Rattle.codes.specs.declared.Code.the-variants.{Done, NoRoom}
+use Rattle.codes.specs.declared.Code.the-variants.{Done, NoRoom, NotCarried}
+use Rattle.codes.specs.declared.Disposition.{Disposition}
+use Rattle.codes.specs.declared.MaybeDisposition.{MaybeDisposition}
+use Rattle.codes.specs.declared.MaybeDisposition.the-variants.{Some, None}
 use Rattle.codes.specs.declared.Note.{Note}
 use Rattle.codes.specs.declared.Note.the-variants.{Clear, Unreadable, Stray}
 use Rattle.codes.specs.declared.Verb.{Verb}
@@ -15,12 +19,12 @@ use Rattle.negotiation.specs.declared.End.{End}
 use Rattle.negotiation.specs.declared.OptionState.{OptionState}
 use Rattle.negotiation.specs.declared.OptionState.the-variants.{No}
 use Rattle.negotiation.specs.declared.Side.{Side}
-use Rattle.negotiation.specs.declared.Side.the-variants.{Echo, BulletinSga, Rcte, Macro, PrinterSga, Returns, Uncarried}
+use Rattle.negotiation.specs.declared.Side.the-variants.{Echo, BulletinSga, Rcte, Macro, PrinterSga, Disposes, Uncarried}
 use Rattle.negotiation.specs.declared.Sides.{Sides}
 use Rattle.negotiation.specs.declared.Asking.{Asking}
 use Rattle.negotiation.specs.declared.Turn.{Turn}
 use Rattle.negotiation.specs.Table.{isYes, isYesOrEnding, heard}
-use Rattle.negotiation.specs.Carried.{moved, mayEnable, stateOf, declined, replyBytes, askedBy, askedWhose, askedSide, askedEnable}
+use Rattle.negotiation.specs.Carried.{moved, mayEnable, stateOf, declined, replyBytes, dispositionInForce, askedBy, askedWhose, askedSide, askedEnable}
 use Rattle.reader.specs.declared.Item.{Item}
 use Rattle.reader.specs.declared.Item.the-variants.{Nothing, Data, Negotiated, BodyEnd, StrayCommand}
 use Rattle.reader.specs.Reading.{ReaderState, idle, read, isBetween}
@@ -32,11 +36,12 @@ use Rattle.bodies.specs.RcteBodies.{rcteBody}
 use Rattle.bodies.specs.MacroBodies.{macroBody, defineRest}
 use Rattle.bodies.specs.ValueBodies.{valueBody}
 use Rattle.received_macros.specs.Texts.{Entry, plain, text, noMacros, entryOf, judged, afterDefine, verdictBytes}
-use Rattle.disposition.specs.Returns.{unspoken, withDs, withDr, suggestion, suggestGuards}
+use Rattle.disposition.specs.ByOption.{unspoken, withDs, withDr, valuesOf, withValuesOf}
+use Rattle.disposition.specs.Handled.{suggestion, suggestGuards}
 use Rattle.rcte.specs.Control.{RcteState as RcteState, holding}
-use Rattle.printer.specs.State.{PrinterState, withSides, withReader, withTable, withRcte, withValues, rcteInForce, echoInForce, naocrdInForce, bmInForce, Effect, printing, sendingFirst, followed, CallEffect, done, refused}
+use Rattle.printer.specs.State.{PrinterState, withSides, withReader, withTable, withRcte, withValues, rcteInForce, echoInForce, bmInForce, Effect, printing, sendingFirst, followed, CallEffect, done, refused}
 use Rattle.printer.specs.Network.{dataRead, rcteMoved, sideMoved, movedWithReply, negotiationRead, rcteRead, macroRead, valueRead, bodyHandled, bodyRead, itemRead, byteRead, bytesRead, entryRead, networkRead}
-use Rattle.printer.specs.Calls.{networkCall, askCall, suggestCall}
+use Rattle.printer.specs.Calls.{networkCall, askCall, suggestOf, suggestCall}
 use Rattle.printer.specs.Session.{called}
 use Rattle.printer.specs.Session.Call.{network, ask, suggest}
 use Rattle.negotiation.proofs.Outcomes.{heard-cases, asking-cases}
@@ -82,8 +87,9 @@ unfolding sideMoved
 side-moved s Rcte q reply = rcte-moved s (withSides s (moved (s .sides) Rcte q)) reply (rcteInForce s) (isYes q) refl refl
 side-moved s Macro q reply =
     moved-step s (withTable (withSides s (moved (s .sides) Macro q)) (cond (isYesOrEnding q) (s .table) noMacros)) refl Clear [] (reply ++ [])
-side-moved s Returns q reply =
-    moved-step s (withValues (withSides s (moved (s .sides) Returns q)) (cond (isYes q) (s .values) unspoken)) refl Clear [] (reply ++ [])
+side-moved s (Disposes d) q reply =
+    let values = cond (isYes q) (s .values) (withValuesOf (s .values) d unspoken) in
+    moved-step s (withValues (withSides s (moved (s .sides) (Disposes d) q)) values) refl Clear [] (reply ++ [])
 side-moved s Echo q reply = moved-step s (withSides s (moved (s .sides) Echo q)) refl Clear [] (reply ++ [])
 side-moved s BulletinSga q reply = moved-step s (withSides s (moved (s .sides) BulletinSga q)) refl Clear [] (reply ++ [])
 side-moved s PrinterSga q reply = moved-step s (withSides s (moved (s .sides) PrinterSga q)) refl Clear [] (reply ++ [])
@@ -110,9 +116,10 @@ macro-read s body (MacroBody.Readable (Define x)) =
     plain-step s (withTable s (afterDefine v (s .table) x (drop 1 (defineRest body)))) refl Clear [] (verdictBytes v x)
 macro-read s body (MacroBody.Readable (Literal x)) = data-read s x
 
-value-read : (s : PrinterState) (b : ValueBody) → Planned (s .sides) (λ e. valueRead (withRcte s e) b)
-value-read s ValueBody.Unreadable = plain-step s s refl Unreadable [] []
-value-read s (ValueBody.Readable v) = plain-step s (withValues s (withDs (s .values) v)) refl Clear [] []
+value-read : (s : PrinterState) (d : Disposition) (b : ValueBody) → Planned (s .sides) (λ e. valueRead (withRcte s e) d b)
+value-read s d ValueBody.Unreadable = plain-step s s refl Unreadable [] []
+value-read s d (ValueBody.Readable v) =
+    plain-step s (withValues s (withValuesOf (s .values) d (withDs (valuesOf (s .values) d) v))) refl Clear [] []
 
 body-read : (s : PrinterState) (marred : Bool) (body : List ℕ) → Planned (s .sides) (λ e. bodyRead (withRcte s e) marred body)
 unfolding bodyRead
@@ -120,7 +127,7 @@ body-read s marred body =
     checked-cases (λ (c : Checked). Planned (s .sides) (λ e. bodyHandled (withRcte s e) body c)) End.Printer (s .sides)
     (λ n. plain-step s s refl n [] [])
     (λ on. rcte-read s (rcteBody body) on)
-    (λ on. value-read s (valueBody DS body))
+    (λ d on. value-read s d (valueBody d DS body))
     (λ on. macro-read s body (macroBody body))
     marred body
 
@@ -204,8 +211,15 @@ ask-call s option way paper wire =
     (refuses-step s)
     (λ q r c m. does-step (side-moved s side q (replyBytes whose r option))))
 
-pub suggest-call : (s : PrinterState) (v paper wire : ℕ) → Answered (s .sides) (λ e. called (withRcte s e) (suggest v paper wire))
+suggest-found : (s : PrinterState) (v : ℕ) (found : MaybeDisposition)
+    → Answered (s .sides) (λ e. ofDisposition (refused (withRcte s e) NotCarried) (suggestOf (withRcte s e) v) found)
+suggest-found s v None = refuses-step s NotCarried
+suggest-found s v (Some d) =
+    let values = valuesOf (s .values) d in
+    guarded-step s (suggestGuards d (dispositionInForce (s .sides) d) (values .dr) v)
+    (does-step (plain-step s (withValues s (withValuesOf (s .values) d (withDr values v))) refl Clear [] (suggestion d DR v)))
+
+pub suggest-call : (s : PrinterState) (option v paper wire : ℕ) → Answered (s .sides) (λ e. called (withRcte s e) (suggest option v paper wire))
 unfolding called suggestCall
-suggest-call s v paper wire =
-    guarded-step s (refusedIf (noRoom paper wire) NoRoom ∷ suggestGuards (naocrdInForce s) (s .values .dr) v)
-    (does-step (plain-step s (withValues s (withDr (s .values) v)) refl Clear [] (suggestion DR v)))
+suggest-call s option v paper wire =
+    guarded-step s (refusedIf (noRoom paper wire) NoRoom ∷ []) (suggest-found s v (dispositionNumbered option))

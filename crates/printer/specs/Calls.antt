@@ -1,22 +1,25 @@
 -- The printer end's calls: each a total function of the state, its arguments and the sizes of the two lent buffers.
 use mathlib.Core.Bool.{Bool, _&&_, cond}
-use mathlib.Core.List.{[], _∷_}
+use mathlib.Core.List.{List, [], _∷_}
 use Prim.Native.Nat.{ℕ}
 use lib.ListN.{length}
 use Rattle.codes.specs.Answers.{noRoom, refusedIf, guarded}
 use Rattle.codes.specs.Telnet.{DR}
-use Rattle.codes.specs.declared.Code.the-variants.{NoRoom, QueueFull, BadCommand}
+use Rattle.codes.specs.Dispositions.{dispositionNumbered, ofDisposition}
+use Rattle.codes.specs.declared.Code.the-variants.{NoRoom, QueueFull, BadCommand, NotCarried}
+use Rattle.codes.specs.declared.Disposition.{Disposition}
 use Rattle.codes.specs.declared.Note.the-variants.{Clear}
 use Rattle.codes.specs.declared.Whose.{Whose}
 use Rattle.keys.specs.declared.Key.{Key}
 use Rattle.keys.specs.Keys.{badCommand, keyWire}
 use Rattle.negotiation.specs.declared.End.{End}
 use Rattle.negotiation.specs.declared.Side.{Side}
-use Rattle.negotiation.specs.Carried.{replyBytes, askedSide, askedWhose, askedEnable, askingOf, askedBy}
+use Rattle.negotiation.specs.Carried.{replyBytes, dispositionInForce, askedSide, askedWhose, askedEnable, askingOf, askedBy}
 use Rattle.rcte.specs.Taking.{sentPaper, sentAtOnce}
 use Rattle.rcte.specs.Control.{isFull, pressed}
-use Rattle.disposition.specs.Returns.{withDr, suggestion, suggestGuards, handlingWhile, Report, reportOf}
-use Rattle.printer.specs.State.{PrinterState, withValues, rcteInForce, echoInForce, naocrdInForce, Effect, sends, ofRcte, CallEffect, done, refused}
+use Rattle.disposition.specs.ByOption.{withDr, valuesOf, withValuesOf}
+use Rattle.disposition.specs.Handled.{suggestion, suggestGuards, handlingsIn, Report, reportsOf}
+use Rattle.printer.specs.State.{PrinterState, withValues, rcteInForce, echoInForce, Effect, sends, ofRcte, CallEffect, done, refused}
 use Rattle.printer.specs.Network.{networkRead, movedWithReply}
 
 unfoldable pub networkCall : PrinterState → ℕ → ℕ → ℕ → CallEffect
@@ -45,14 +48,20 @@ askCall s option way paper wire =
     (askOf s option (askedWhose way) (askedSide End.Printer option way) (askedEnable way))
 
 -- DR, suggested by the printer end; the value that counts is its own
-unfoldable pub suggestCall : PrinterState → ℕ → ℕ → ℕ → CallEffect
-suggestCall s v paper wire =
-    guarded (refusedIf (noRoom paper wire) NoRoom ∷ suggestGuards (naocrdInForce s) (s .values .dr) v) (refused s)
-    (done (sends (suggestion DR v) (withValues s (withDr (s .values) v))))
+abbrev pub suggestOf : PrinterState → ℕ → Disposition → CallEffect
+suggestOf s v d =
+    let values = valuesOf (s .values) d in
+    guarded (suggestGuards d (dispositionInForce (s .sides) d) (values .dr) v) (refused s)
+    (done (sends (suggestion d DR v) (withValues s (withValuesOf (s .values) d (withDr values v)))))
 
--- who handles carriage returns, and by which value, in numbers
-abbrev pub returnsReport : PrinterState → Report
-returnsReport s = reportOf (handlingWhile (naocrdInForce s) (s .values))
+unfoldable pub suggestCall : PrinterState → ℕ → ℕ → ℕ → ℕ → CallEffect
+suggestCall s option v paper wire =
+    guarded (refusedIf (noRoom paper wire) NoRoom ∷ []) (refused s)
+    (ofDisposition (refused s NotCarried) (suggestOf s v) (dispositionNumbered option))
+
+-- of each option about output disposition who handles its character, and by which value, in numbers
+abbrev pub dispositionsReport : PrinterState → List Report
+dispositionsReport s = reportsOf (handlingsIn (s .sides) (s .values))
 
 -- the number of waiting keys
 abbrev pub waitingCount : PrinterState → ℕ

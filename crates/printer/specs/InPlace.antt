@@ -14,7 +14,7 @@ use Rattle.codes.specs.declared.Note.the-variants.{Clear}
 use Rattle.codes.specs.declared.Verb.{Verb}
 use Rattle.negotiation.specs.declared.End.{End}
 use Rattle.negotiation.specs.declared.Side.{Side}
-use Rattle.negotiation.specs.declared.Side.the-variants.{Echo, BulletinSga, Rcte, Macro, PrinterSga, Returns, Uncarried}
+use Rattle.negotiation.specs.declared.Side.the-variants.{Echo, BulletinSga, Rcte, Macro, PrinterSga, Disposes, Uncarried}
 use Rattle.negotiation.specs.declared.Sides.{Sides}
 use Rattle.negotiation.specs.declared.Turn.{Turn}
 use Rattle.negotiation.specs.Carried.{moved, replyBytes, heardBy, macrosInForce}
@@ -72,7 +72,7 @@ movesAlone BulletinSga = true
 movesAlone Rcte = false
 movesAlone Macro = false
 movesAlone PrinterSga = true
-movesAlone Returns = false
+movesAlone (Disposes d) = false
 movesAlone Uncarried = true
 
 unfoldable pub turnInPlace : Sides → (phase next : Phase) → ℕ → Turn → InPlaceEffect

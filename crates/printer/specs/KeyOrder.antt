@@ -14,7 +14,7 @@ abbrev pub accepts : Call → CallEffect → Bool
 accepts (network b p w) a = false
 accepts (key k p w) a = isDone (a .code)
 accepts (ask o y p w) a = false
-accepts (suggest v p w) a = false
+accepts (suggest o v p w) a = false
 
 -- of a list with an element for each call, those of the calls that accepted a key
 unfoldable pub ofAccepted : {X : Type 0} → List X → List Call → List CallEffect → List X
@@ -27,7 +27,7 @@ abbrev pub keysOf : Call → List Key
 keysOf (network b p w) = []
 keysOf (key k p w) = k ∷ []
 keysOf (ask o y p w) = []
-keysOf (suggest v p w) = []
+keysOf (suggest o v p w) = []
 
 -- the keys that a session accepted
 abbrev pub acceptedKeys : List Call → List Key

@@ -7,7 +7,8 @@ use lib.ListN.{length, getD}
 use Rattle.codes.specs.Answers.{paperRoom, wireRoom}
 use Rattle.codes.specs.Telnet.{DR}
 use Rattle.keys.specs.declared.Key.{Key}
-use Rattle.disposition.specs.Returns.{suggestion}
+use Rattle.codes.specs.declared.Disposition.{Disposition}
+use Rattle.disposition.specs.Handled.{suggestion}
 use Rattle.negotiation.specs.declared.OptionState.{OptionState}
 use Rattle.negotiation.specs.declared.Side.{Side}
 use Rattle.reader.specs.Reading.{bodyRoom}
@@ -63,7 +64,7 @@ MoveFits = (s : PrinterState) (side : Side) (q : OptionState) (reply : List ℕ)
 
 -- A part of CallFits: a suggestion. Assumed, promised and ruled out as there.
 abbrev pub SuggestionFits : Type 0
-SuggestionFits = (v : ℕ) → length (suggestion DR v) ≤ wireRoom
+SuggestionFits = (d : Disposition) (v : ℕ) → length (suggestion d DR v) ≤ wireRoom
 
 -- Assumed: a state of these sizes, reached or not. Promised: what one call writes fits the buffers that code 1 asks
 -- for, so that no other refusal for want of room is needed. Ruled out: a macro's text that overflows the paper;
@@ -94,7 +95,7 @@ abbrev pub OfBytes : Call → Type 0
 OfBytes (network b p w) = b < 256
 OfBytes (key k p w) = Unit {0}
 OfBytes (ask o y p w) = Unit {0}
-OfBytes (suggest v p w) = Unit {0}
+OfBytes (suggest o v p w) = Unit {0}
 
 -- Assumed: a state of these sizes, and that a network byte is a byte. Promised: the state after any call has them.
 -- Ruled out: a 257th key that waits, or a 513th byte that is gathered; a body of which more than 260 bytes are kept,

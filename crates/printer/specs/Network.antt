@@ -4,12 +4,13 @@ use mathlib.Core.List.{List, [], _∷_}
 use Prim.Native.Nat.{ℕ}
 use lib.ListN.{drop}
 use Rattle.codes.specs.Telnet.{DS}
+use Rattle.codes.specs.declared.Disposition.{Disposition}
 use Rattle.codes.specs.declared.Note.the-variants.{Unreadable, Stray}
 use Rattle.codes.specs.declared.Verb.{Verb}
 use Rattle.negotiation.specs.declared.End.{End}
 use Rattle.negotiation.specs.declared.OptionState.{OptionState}
 use Rattle.negotiation.specs.declared.Side.{Side}
-use Rattle.negotiation.specs.declared.Side.the-variants.{Echo, BulletinSga, Rcte, Macro, PrinterSga, Returns, Uncarried}
+use Rattle.negotiation.specs.declared.Side.the-variants.{Echo, BulletinSga, Rcte, Macro, PrinterSga, Disposes, Uncarried}
 use Rattle.negotiation.specs.Table.{isYes, isYesOrEnding}
 use Rattle.negotiation.specs.Carried.{moved, replyBytes, heardBy}
 use Rattle.reader.specs.declared.Item.{Item}
@@ -24,7 +25,7 @@ use Rattle.bodies.specs.ValueBodies.{valueBody}
 use Rattle.received_macros.specs.declared.Verdict.{Verdict}
 use Rattle.received_macros.specs.Texts.{Entry, plain, text, noMacros, entryOf, judged, afterDefine, verdictBytes}
 use Rattle.rcte.specs.Control.{started, holding, commanded, rcteEnded}
-use Rattle.disposition.specs.Returns.{unspoken, withDs}
+use Rattle.disposition.specs.ByOption.{unspoken, withDs, valuesOf, withValuesOf}
 use Rattle.subnegotiation.specs.declared.Checked.{Checked}
 use Rattle.subnegotiation.specs.declared.Checked.the-variants.{Noted}
 use Rattle.subnegotiation.specs.Checks.{checked}
@@ -48,7 +49,8 @@ rcteMoved false false s = nothing s
 unfoldable pub sideMoved : PrinterState → Side → OptionState → Effect
 sideMoved s Rcte q = rcteMoved (rcteInForce s) (isYes q) (withSides s (moved (s .sides) Rcte q))
 sideMoved s Macro q = nothing (withTable (withSides s (moved (s .sides) Macro q)) (cond (isYesOrEnding q) (s .table) noMacros))
-sideMoved s Returns q = nothing (withValues (withSides s (moved (s .sides) Returns q)) (cond (isYes q) (s .values) unspoken))
+sideMoved s (Disposes d) q =
+    nothing (withValues (withSides s (moved (s .sides) (Disposes d) q)) (cond (isYes q) (s .values) (withValuesOf (s .values) d unspoken)))
 sideMoved s Echo q = nothing (withSides s (moved (s .sides) Echo q))
 sideMoved s BulletinSga q = nothing (withSides s (moved (s .sides) BulletinSga q))
 sideMoved s PrinterSga q = nothing (withSides s (moved (s .sides) PrinterSga q))
@@ -79,15 +81,15 @@ macroRead s body MacroBody.Unreadable = notes Unreadable s
 macroRead s body (MacroBody.Readable (Define x)) = defineJudged s x (defineRest body)
 macroRead s body (MacroBody.Readable (Literal x)) = dataRead s x
 
-abbrev pub valueRead : PrinterState → ValueBody → Effect
-valueRead s ValueBody.Unreadable = notes Unreadable s
-valueRead s (ValueBody.Readable v) = nothing (withValues s (withDs (s .values) v))
+abbrev pub valueRead : PrinterState → Disposition → ValueBody → Effect
+valueRead s d ValueBody.Unreadable = notes Unreadable s
+valueRead s d (ValueBody.Readable v) = nothing (withValues s (withValuesOf (s .values) d (withDs (valuesOf (s .values) d) v)))
 
 -- a body by its option, or the note that ends its handling
 abbrev pub bodyHandled : PrinterState → List ℕ → Checked → Effect
 bodyHandled s body (Noted n) = notes n s
 bodyHandled s body Checked.Rcte = rcteRead s (rcteBody body)
-bodyHandled s body Checked.Returns = valueRead s (valueBody DS body)
+bodyHandled s body (Checked.Disposes d) = valueRead s d (valueBody d DS body)
 bodyHandled s body Checked.Macro = macroRead s body (macroBody body)
 
 unfoldable pub bodyRead : PrinterState → Bool → List ℕ → Effect

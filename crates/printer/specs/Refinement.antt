@@ -17,7 +17,7 @@ use Rattle.rcte.specs.Control.{waitRoom}
 use Rattle.reader.specs.Refinement.{viewReader, CleanReader, idleCells}
 use Rattle.received_macros.specs.Refinement.{viewTexts, CleanTexts, emptyCells}
 use Rattle.rcte.specs.Refinement.{viewRcte, CleanRcte, startedCells}
-use Rattle.disposition.specs.Returns.{unspoken}
+use Rattle.disposition.specs.ByOption.{allUnspoken}
 use Rattle.printer.specs.declared.Printer.{Printer}
 use Rattle.printer.specs.declared.Step.{Step}
 use Rattle.printer.specs.declared.Answer.{Answer}
@@ -64,6 +64,10 @@ pub record RefinesOutcome (a : CallEffect) (p : Printer) (paper wire : Lent) (r 
   pub clean : CleanPrinter p → CleanPrinter (r .state)
   pub whole : WholePrinter p → WholePrinter (r .state)
   pub same : (a .code ≡ Done → ⊥) → r .state ≡ p
+
+-- where nothing is written on the paper
+pub record RefinesOutcomeOnWire (a : CallEffect) (p : Printer) (wire : Lent) (r : Answer) : Type 0 where
+  pub met : (paper : List ℕ) → RefinesOutcome a p (untouched paper) wire r
 
 -- what a call owes to its rule, which goes by the sizes of the two buffers
 abbrev pub RefinesAnswer : (ℕ → ℕ → CallEffect) → Printer → Lent → Lent → Answer → Type 0
@@ -113,4 +117,4 @@ bodyEndRead s = itemRead s BodyEnd
 
 -- the printer end at first, as the code makes it
 abbrev pub freshCells : Printer
-freshCells = record { sides = allNo; reader = idleCells; table = emptyCells; rcte = startedCells; values = unspoken }
+freshCells = record { sides = allNo; reader = idleCells; table = emptyCells; rcte = startedCells; values = allUnspoken }

@@ -10,13 +10,13 @@ pub data Call : Type 0 where
   network : (byte paper wire : ℕ) → Call
   key : Key → (paper wire : ℕ) → Call
   ask : (option way paper wire : ℕ) → Call
-  suggest : (value paper wire : ℕ) → Call
+  suggest : (option value paper wire : ℕ) → Call
 
 unfoldable pub called : PrinterState → Call → CallEffect
 called s (network b p w) = networkCall s b p w
 called s (key k p w) = keyCall s k p w
 called s (ask o y p w) = askCall s o y p w
-called s (suggest v p w) = suggestCall s v p w
+called s (suggest o v p w) = suggestCall s o v p w
 
 unfoldable pub answersFrom : PrinterState → List Call → List CallEffect
 answersFrom s [] = []

@@ -15,18 +15,18 @@ use Rattle.reader.specs.Reading.{ReaderState, idle}
 use Rattle.received_macros.specs.Texts.{Table, noMacros}
 use Rattle.rcte.specs.Taking.{TakeUp}
 use Rattle.rcte.specs.Control.{RcteState, RcteEffect, started}
-use Rattle.disposition.specs.declared.Values.{Values}
-use Rattle.disposition.specs.Returns.{unspoken}
+use Rattle.disposition.specs.declared.AllValues.{AllValues}
+use Rattle.disposition.specs.ByOption.{allUnspoken}
 
 pub record PrinterState : Type 0 where
   pub sides : Sides
   pub reader : ReaderState
   pub table : Table
   pub rcte : RcteState
-  pub values : Values
+  pub values : AllValues
 
 abbrev pub fresh : PrinterState
-fresh = record { sides = allNo; reader = idle; table = noMacros; rcte = started; values = unspoken }
+fresh = record { sides = allNo; reader = idle; table = noMacros; rcte = started; values = allUnspoken }
 
 abbrev pub withSides : PrinterState → Sides → PrinterState
 withSides s x = record { sides = x; reader = s .reader; table = s .table; rcte = s .rcte; values = s .values }
@@ -40,7 +40,7 @@ withTable s x = record { sides = s .sides; reader = s .reader; table = x; rcte =
 abbrev pub withRcte : PrinterState → RcteState → PrinterState
 withRcte s x = record { sides = s .sides; reader = s .reader; table = s .table; rcte = x; values = s .values }
 
-abbrev pub withValues : PrinterState → Values → PrinterState
+abbrev pub withValues : PrinterState → AllValues → PrinterState
 withValues s x = record { sides = s .sides; reader = s .reader; table = s .table; rcte = s .rcte; values = x }
 
 -- in force
@@ -49,9 +49,6 @@ rcteInForce s = isYes (s .sides .rcte)
 
 abbrev pub echoInForce : PrinterState → Bool
 echoInForce s = isYes (s .sides .echo)
-
-abbrev pub naocrdInForce : PrinterState → Bool
-naocrdInForce s = isYes (s .sides .naocrd)
 
 abbrev pub bmInForce : PrinterState → Bool
 bmInForce s = macrosInForce End.Printer (s .sides)

@@ -20,7 +20,7 @@ abbrev pub inTails : Tails → Call → Call
 inTails t (network b p w) = network b (t .paper) (t .wire)
 inTails t (key k p w) = key k (t .paper) (t .wire)
 inTails t (ask o y p w) = ask o y (t .paper) (t .wire)
-inTails t (suggest v p w) = suggest v (t .paper) (t .wire)
+inTails t (suggest o v p w) = suggest o v (t .paper) (t .wire)
 
 -- what is unused after an answer
 abbrev pub unusedAfter : Tails → CallEffect → Tails

@@ -16,6 +16,7 @@ use bodies::MacroCommand;
 use bodies::RcteBody;
 use bodies::ValueBody;
 use codes::DS;
+use codes::Disposition;
 use codes::Note;
 use negotiation::End;
 use subnegotiation::Checked;
@@ -42,15 +43,16 @@ fn rcte_read(s: Printer, body: &[u8], paper: &mut [u8], wire: &mut [u8]) -> Step
     }
 }
 
-// The bulletin end's value about carriage returns, with NAOCRD in force.
-fn value_read(s: Printer, body: &[u8]) -> Step
-    ensures { λ r. ⌜ RefinesStepUnwritten (valueRead (viewPrinter s) (valueBody DS (now (body .entry)))) s r ⌝ }
+// The bulletin end's value about an option's character, with the option in force.
+fn value_read(s: Printer, d: Disposition, body: &[u8]) -> Step
+    ensures { λ r. ⌜ RefinesStepUnwritten (valueRead (viewPrinter s) d (valueBody d DS (now (body .entry)))) s r ⌝ }
 {
-    let ValueBody::Readable(value) = bodies::value_body(DS, body) else {
+    let ValueBody::Readable(value) = bodies::value_body(d, DS, body) else {
         return moves::note_alone(s, Note::Unreadable);
     };
     let old = s.values;
-    let values = disposition::with_ds(old, value);
+    let spoken = disposition::with_ds(disposition::values_of(old, d), value);
+    let values = disposition::with_values_of(old, d, spoken);
     let mut t = s;
     t.values = values;
     moves::note_alone(t, Note::Clear)
@@ -100,7 +102,7 @@ fn handled(s: Printer, body: &[u8], checked: Checked, paper: &mut [u8], wire: &m
     match checked {
         Checked::Noted(note) => moves::note_alone(s, note),
         Checked::Rcte => rcte_read(s, body, paper, wire),
-        Checked::Returns => value_read(s, body),
+        Checked::Disposes(d) => value_read(s, d, body),
         Checked::Macro => macro_read(s, body, paper, wire),
     }
 }

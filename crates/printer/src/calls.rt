@@ -1,14 +1,15 @@
 // The printer end's calls. None asks anything of its caller.
 ghost use mathlib.Core.Path.{_≡_};
 ghost use mathlib.Core.Bool.{false, _&&_};
-ghost use Rattle.disposition.specs.Returns.{reportOf};
+ghost use Rattle.codes.specs.Telnet.{DR};
+ghost use Rattle.disposition.specs.Handled.{reportsOf, suggestion};
 ghost use Rattle.rcte.specs.Control.{isFull};
 ghost use Rattle.printer.specs.State.{rcteInForce};
-ghost use Rattle.printer.specs.Calls.{networkCall, keyCall, keyTyped, askCall, suggestCall, returnsReport};
+ghost use Rattle.printer.specs.Calls.{networkCall, keyCall, keyTyped, askCall, suggestOf, suggestCall, dispositionsReport};
 ghost use Rattle.lists.specs.Buffers.{lent, RoomFor};
 ghost use Rattle.printer.specs.NetworkRun.{networkRun};
 ghost use Rattle.printer.specs.RefinementOfRuns.{RefinesRun};
-ghost use Rattle.printer.specs.Refinement.{WholePrinter, viewPrinter, RefinesAnswer, RefinesStep, freshCells, refusal, answered};
+ghost use Rattle.printer.specs.Refinement.{WholePrinter, viewPrinter, RefinesAnswer, RefinesOutcomeOnWire, RefinesStep, freshCells, refusal, answered};
 use crate::Answer;
 use crate::Printer;
 use crate::RunAnswer;
@@ -18,8 +19,10 @@ use crate::network;
 use crate::run;
 use codes::Code;
 use codes::DR;
+use codes::Disposition;
+use codes::MaybeDisposition;
 use codes::Note;
-use disposition::Handling;
+use disposition::Handlings;
 use keys::Key;
 use negotiation::Asking;
 use negotiation::End;
@@ -31,7 +34,7 @@ pub fn fresh() -> Printer
     let reader = reader::idle();
     let table = received_macros::empty();
     let rcte = rcte::started();
-    let values = disposition::unspoken();
+    let values = disposition::all_unspoken();
     Printer {
         sides,
         reader,
@@ -182,21 +185,25 @@ pub fn ask(s: Printer, option: u8, way: u8, paper: &mut [u8], wire: &mut [u8]) -
     }
 }
 
-// This end's value about carriage returns, DR.
-pub fn suggest(s: Printer, v: u8, paper: &mut [u8], wire: &mut [u8]) -> Answer
-    ensures { λ r. ⌜ RefinesAnswer (suggestCall (viewPrinter s) v) s (lent paper) (lent wire) r ⌝ }
+// This end's value about an option's character, DR.
+fn suggest_of(s: Printer, v: u8, d: Disposition, wire: &mut [u8]) -> Answer
+    requires { ⌜ RoomFor (suggestion d DR v) (now wire) ⌝ }
+    ensures { λ r. ⌜ RefinesOutcomeOnWire (suggestOf (viewPrinter s) v d) s (lent wire) r ⌝ }
 {
-    if codes::no_room(paper.len(), wire.len()) {
-        return refused(s, Code::NoRoom);
-    }
     let sides = s.sides;
-    let old = s.values;
-    let code = disposition::suggest_refusal(negotiation::returns_in_force(sides), old.dr, v);
+    let all = s.values;
+    let old = disposition::values_of(all, d);
+    let code = disposition::suggest_refusal(
+        d,
+        negotiation::disposition_in_force(sides, d),
+        old.dr,
+        v,
+    );
     if !codes::is_done(code) {
         return refused(s, code);
     }
-    let n = disposition::put_suggestion(DR, v, wire);
-    let values = disposition::with_dr(old, v);
+    let n = disposition::put_suggestion(d, DR, v, wire);
+    let values = disposition::with_values_of(all, d, disposition::with_dr(old, v));
     let mut t = s;
     t.values = values;
     Answer {
@@ -208,11 +215,25 @@ pub fn suggest(s: Printer, v: u8, paper: &mut [u8], wire: &mut [u8]) -> Answer
     }
 }
 
-// Who handles carriage returns, and how.
-pub fn report(s: Printer) -> Handling
-    ensures { λ r. ⌜ reportOf r ≡ returnsReport (viewPrinter s) ⌝ }
+// The same of an option by its number.
+pub fn suggest(s: Printer, option: u8, v: u8, paper: &mut [u8], wire: &mut [u8]) -> Answer
+    ensures { λ r. ⌜ RefinesAnswer (suggestCall (viewPrinter s) option v) s (lent paper) (lent wire) r ⌝ }
+{
+    if codes::no_room(paper.len(), wire.len()) {
+        return refused(s, Code::NoRoom);
+    }
+    let found = codes::disposition_numbered(option);
+    match found {
+        MaybeDisposition::Some(d) => suggest_of(s, v, d, wire),
+        MaybeDisposition::None => refused(s, Code::NotCarried),
+    }
+}
+
+// Of each option about output disposition who handles its character, and how.
+pub fn report(s: Printer) -> Handlings
+    ensures { λ r. ⌜ reportsOf r ≡ dispositionsReport (viewPrinter s) ⌝ }
 {
     let sides = s.sides;
     let values = s.values;
-    disposition::handling_while(negotiation::returns_in_force(sides), values)
+    disposition::handlings_in(sides, values)
 }

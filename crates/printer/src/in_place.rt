@@ -147,7 +147,7 @@ fn moves_alone(side: Side) -> bool
         Side::Rcte => false,
         Side::Macro => false,
         Side::PrinterSga => true,
-        Side::Returns => false,
+        Side::Disposes(_) => false,
         Side::Uncarried => true,
     }
 }

@@ -1,7 +1,7 @@
 // The printer end: keyboard and paper. One state by value, and its calls.
 use codes::Code;
 use codes::Note;
-use disposition::Values;
+use disposition::AllValues;
 use negotiation::Sides;
 use rcte::Rcte;
 use reader::Reader;
@@ -15,13 +15,13 @@ mod network;
 mod run;
 pub mod stretches;
 
-// The whole state: negotiation, reader, macros, RCTE's control, the two carriage-return values.
+// The whole state: negotiation, reader, macros, RCTE's control, the values about output disposition.
 pub struct Printer {
     pub sides: Sides,
     pub reader: Reader,
     pub table: Texts,
     pub rcte: Rcte,
-    pub values: Values,
+    pub values: AllValues,
 }
 
 // A step: its note, how many bytes went to the paper and to the wire, and the state after it.

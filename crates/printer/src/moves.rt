@@ -1,13 +1,14 @@
 // Negotiation: what is heard, and what follows as a side's state changes.
 ghost use Rattle.lists.specs.Buffers.{lent, RoomFor};
 ghost use Rattle.negotiation.specs.Carried.{replyBytes};
-ghost use Rattle.negotiation.specs.declared.Side.the-variants.{Rcte, Macro, Returns};
+ghost use Rattle.negotiation.specs.declared.Side.the-variants.{Rcte, Macro, Disposes};
 ghost use Rattle.printer.specs.Network.{rcteMoved, sideMoved, movedWithReply, negotiationRead};
 ghost use mathlib.Core.Bool.{true, false};
 ghost use Rattle.printer.specs.Refinement.{viewPrinter, sidesMoved, RefinesStep, RefinesState, NoteAlone};
 ghost use Rattle.codes.specs.declared.Note.the-variants.{Clear};
 use crate::Printer;
 use crate::Step;
+use codes::Disposition;
 use codes::Note;
 use codes::Verb;
 use codes::Whose;
@@ -91,18 +92,19 @@ fn macro_moved(s: Printer, q: OptionState) -> Printer
     t
 }
 
-// Both values are forgotten as NAOCRD is no longer in force.
-fn returns_moved(s: Printer, q: OptionState) -> Printer
-    ensures { λ r. ⌜ RefinesState (sideMoved (viewPrinter s) Returns q) s r ⌝ }
+// Both values of an option about output disposition are forgotten as it is no longer in force.
+fn disposition_moved(s: Printer, d: Disposition, q: OptionState) -> Printer
+    ensures { λ r. ⌜ RefinesState (sideMoved (viewPrinter s) (Disposes d) q) s r ⌝ }
 {
     let old = s.sides;
-    let sides = negotiation::moved(old, Side::Returns, q);
+    let sides = negotiation::moved(old, Side::Disposes(d), q);
     let mut t = s;
     t.sides = sides;
     if negotiation::is_yes(q) {
         return t;
     }
-    let values = disposition::unspoken();
+    let spoken = s.values;
+    let values = disposition::with_values_of(spoken, d, disposition::unspoken());
     t.values = values;
     t
 }
@@ -119,8 +121,8 @@ fn side_moved(s: Printer, side: Side, q: OptionState, paper: &mut [u8], wire: &m
             let t = macro_moved(s, q);
             note_alone(t, Note::Clear)
         }
-        Side::Returns => {
-            let t = returns_moved(s, q);
+        Side::Disposes(d) => {
+            let t = disposition_moved(s, d, q);
             note_alone(t, Note::Clear)
         }
         Side::Uncarried => note_alone(s, Note::Clear),

@@ -13,7 +13,8 @@ use Rattle.keys.specs.declared.Key.{Key}
 use Rattle.keys.specs.declared.Key.the-variants.{Char, Line, Command}
 use Rattle.keys.specs.Keys.{badCommand}
 use Rattle.sent_macros.specs.Sending.{Sent, free, pending, pendingFree, accepted, refused, sentOf, isAccepted, acceptedText}
-use Rattle.disposition.specs.Returns.{itemData}
+use Rattle.disposition.specs.ByOption.{isWaiting}
+use Rattle.disposition.specs.ItemData.{itemData}
 use Rattle.printer.specs.State as P
 use Rattle.bulletin.specs.State as B
 use Rattle.bulletin.specs.Calls.{textCall, textData, useCall, useData, itemSent}
@@ -53,36 +54,36 @@ accepted-is refused h = absurd (false≢true h)
 record ItemAllowed (b : B.BulletinState) (k : Key) (w : ℕ) : Type 0 where
   room : ltb w wireRoom ≡ false
   good : badCommand k ≡ false
-  ready : b .awaiting ≡ false
+  ready : isWaiting (b .waits) ≡ false
 
 record UseAllowed (b : B.BulletinState) (x w : ℕ) : Type 0 where
   room : ltb w wireRoom ≡ false
   on : B.bmInForce b ≡ true
-  ready : b .awaiting ≡ false
+  ready : isWaiting (b .waits) ≡ false
   given : isAccepted (sentOf (b .table) x) ≡ true
 
 module _ (b : B.BulletinState) where
   item-allowed : (k : Key) (w : ℕ) → Allowed b (item k w) → ItemAllowed b k w
   item-allowed k w h =
       let front = leb wireRoom w && isItem k in
-      let both = both-left front (not (b .awaiting)) h in
+      let both = both-left front (not (isWaiting (b .waits))) h in
       record {
         room = le-ltb w wireRoom (leb-true wireRoom w (both-left (leb wireRoom w) (isItem k) both));
         good = good-item k (both-right (leb wireRoom w) (isItem k) both);
-        ready = not-true (b .awaiting) (both-right front (not (b .awaiting)) h);
+        ready = not-true (isWaiting (b .waits)) (both-right front (not (isWaiting (b .waits))) h);
       }
 
   use-allowed : (x w : ℕ) → Allowed b (macroUse x w) → UseAllowed b x w
   use-allowed x w h =
       let has = isAccepted (sentOf (b .table) x) in
       let two = leb wireRoom w && B.bmInForce b in
-      let three = both-left (two && not (b .awaiting)) has h in
-      let front = both-left two (not (b .awaiting)) three in
+      let three = both-left (two && not (isWaiting (b .waits))) has h in
+      let front = both-left two (not (isWaiting (b .waits))) three in
       record {
         room = le-ltb w wireRoom (leb-true wireRoom w (both-left (leb wireRoom w) (B.bmInForce b) front));
         on = both-right (leb wireRoom w) (B.bmInForce b) front;
-        ready = not-true (b .awaiting) (both-right two (not (b .awaiting)) three);
-        given = both-right (two && not (b .awaiting)) has h;
+        ready = not-true (isWaiting (b .waits)) (both-right two (not (isWaiting (b .waits))) three);
+        given = both-right (two && not (isWaiting (b .waits))) has h;
       }
 
   -- an allowed one is not refused
@@ -124,8 +125,8 @@ module _ (b : B.BulletinState) where
   module _ (iac : IacFree b) (p : P.PrinterState) (a : Agreed b p) where
     item-read : (k : Key) → badCommand k ≡ false → Reads (textData b k) p (steps reads p (itemSent b k .wire))
     unfolding textData itemSent itemData
-    item-read (Char c) h = text-read b iac p a (itemData (B.handlingNow b) (Char c))
-    item-read Line h = text-read b iac p a (itemData (B.handlingNow b) Line)
+    item-read (Char c) h = text-read b iac p a (itemData (B.handlingsNow b) (Char c))
+    item-read Line h = text-read b iac p a (itemData (B.handlingsNow b) Line)
     item-read (Command c) h = command-read p c (a .between) (iac-stands b iac p a) (not-false (plainCommand c) h)
 
     use-read : (x w : ℕ) → UseAllowed b x w → Reads (useData b x) p (steps reads p (x ∷ []))

@@ -11,12 +11,12 @@ use Rattle.lists.proofs.Lengths.{either, chosen}
 use Rattle.codes.specs.Telnet.{IAC}
 use Rattle.negotiation.specs.declared.OptionState.{OptionState}
 use Rattle.negotiation.specs.declared.Side.{Side}
-use Rattle.negotiation.specs.declared.Side.the-variants.{Echo, BulletinSga, Rcte, Macro, PrinterSga, Returns, Uncarried}
+use Rattle.negotiation.specs.declared.Side.the-variants.{Echo, BulletinSga, Rcte, Macro, PrinterSga, Disposes, Uncarried}
 use Rattle.negotiation.specs.Table.{isYes}
 use Rattle.bodies.specs.declared.MacroReply.{MacroReply}
 use Rattle.bodies.specs.declared.MacroReply.the-variants.{Accept, Refuse, PleaseCancel}
 use Rattle.sent_macros.specs.Sending.{Definitions, Sent, free, noDefinitions, sentOf, isAccepted, onAccept, onRefuse, defining, sentFor}
-use Rattle.bulletin.specs.State.{BulletinState, fresh, withTable, Effect, CallEffect}
+use Rattle.bulletin.specs.State.{BulletinState, fresh, withTable, CallEffect}
 use Rattle.bulletin.specs.Network.{sideMoved, macroReplied}
 use Rattle.bulletin.specs.Calls.{defineGuards}
 use Rattle.bulletin.specs.Session.{Call, called, answersFrom}
@@ -44,7 +44,7 @@ set-free t x v h k = go (eqb x IAC) refl
 side-free : (s : BulletinState) (side : Side) (q : OptionState) (reply : List ℕ) → IacFree s → IacFree (sideMoved s side q reply .state)
 unfolding sideMoved
 side-free s Macro q reply h = either FreeIn (isYes q) h none-free
-side-free s Returns q reply h = h
+side-free s (Disposes d) q reply h = h
 side-free s Rcte q reply h = h
 side-free s Echo q reply h = h
 side-free s BulletinSga q reply h = h

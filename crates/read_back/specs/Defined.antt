@@ -22,10 +22,10 @@ accepts = 255 ∷ 250 ∷ 19 ∷ 2 ∷ 128 ∷ 255 ∷ 240 ∷ []
 
 -- bytes that arrive at each end
 abbrev pub toBulletin : List ℕ → List BS.Call
-toBulletin bytes = map (λ x. BS.network x 1024 2048) bytes
+toBulletin bytes = map (λ x. BS.network x 1024 4096) bytes
 
 abbrev pub toPrinter : List ℕ → List PS.Call
-toPrinter bytes = map (λ x. PS.network x 1024 2048) bytes
+toPrinter bytes = map (λ x. PS.network x 1024 4096) bytes
 
 -- the wire of a session of the bulletin end, and a fresh printer end that reads bytes
 abbrev pub wireOf : List BS.Call → List ℕ
@@ -36,10 +36,10 @@ firstReads bytes = printerAnswers P.fresh (toPrinter bytes)
 
 -- BM is asked for and agreed, and 128 is defined as this text and accepted
 abbrev pub asks : List BS.Call
-asks = BS.ask 19 3 2048 ∷ []
+asks = BS.ask 19 3 4096 ∷ []
 
 abbrev pub defines : List ℕ → List BS.Call
-defines t = asks ++ toBulletin agrees ++ BS.define 128 t 2048 ∷ toBulletin accepts
+defines t = asks ++ toBulletin agrees ++ BS.define 128 t 4096 ∷ toBulletin accepts
 
 abbrev pub macroText : List ℕ
 macroText = 72 ∷ 255 ∷ []
@@ -62,7 +62,7 @@ pub record DefinedAgree : Type 0 where
 
 -- a use of the macro, Char(13), Char(255), and the macro's byte as a character
 abbrev pub sendings : List Sending
-sendings = macroUse 128 2048 ∷ item (Char 13) 2048 ∷ item (Char 255) 2048 ∷ item (Char 128) 2048 ∷ []
+sendings = macroUse 128 4096 ∷ item (Char 13) 4096 ∷ item (Char 255) 4096 ∷ item (Char 128) 4096 ∷ []
 
 abbrev pub sentWire : List ℕ
 sentWire = allWire (reached calls) sendings

@@ -28,7 +28,7 @@ refuses = 255 ∷ 250 ∷ 19 ∷ 3 ∷ 128 ∷ 3 ∷ 255 ∷ 240 ∷ []
 
 -- 128 is defined as the old text and accepted, then as the new one and refused
 abbrev pub calls : List BS.Call
-calls = defines oldText ++ BS.define 128 newText 2048 ∷ toBulletin refuses
+calls = defines oldText ++ BS.define 128 newText 4096 ∷ toBulletin refuses
 
 -- the byte behind the first n is lost on the line
 abbrev pub losing : ℕ → List ℕ → List ℕ
@@ -48,7 +48,7 @@ p = printerAfter P.fresh read
 
 -- a use of the macro, which is refused; then its byte as a character, A and a Line
 abbrev pub sendings : List Sending
-sendings = macroUse 128 2048 ∷ item (Char 128) 2048 ∷ item (Char 65) 2048 ∷ item Line 2048 ∷ []
+sendings = macroUse 128 4096 ∷ item (Char 128) 4096 ∷ item (Char 65) 4096 ∷ item Line 4096 ∷ []
 
 -- Assumed: nothing. 128 has an accepted text. A new one loses a byte on the line (`sent`, `lost`); the printer end
 -- answers REFUSE (`replies`) and keeps the old text (`kept`), the bulletin end has the byte as refused (`isRefused`).
@@ -63,7 +63,7 @@ pub record Incident : Type 0 where
   pub kept : entryOf (p .table) 128 ≡ text oldText
   pub isRefused : sentOf (b .table) 128 ≡ refused
   pub demanded : Demanded b p
-  pub code : codeNumber (answer b (macroUse 128 2048) .code) ≡ 10
+  pub code : codeNumber (answer b (macroUse 128 4096) .code) ≡ 10
   pub wire : allWire b sendings ≡ 255 ∷ 250 ∷ 19 ∷ 4 ∷ 128 ∷ 255 ∷ 240 ∷ 65 ∷ 13 ∷ 10 ∷ []
   pub paper : printerPaper (printerAnswers p (toPrinter (allWire b sendings))) ≡ 128 ∷ 65 ∷ 13 ∷ 10 ∷ []
   pub back : (cs : List Sending) (later : List PS.Call) → NetworkCalls (allWire b cs) later

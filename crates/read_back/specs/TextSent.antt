@@ -8,6 +8,7 @@ use Rattle.lists.specs.Choice.{between}
 use Rattle.codes.specs.Answers.{wireRoom}
 use Rattle.keys.specs.declared.Key.{Key}
 use Rattle.keys.specs.declared.Key.the-variants.{Char, Line, Command}
+use Rattle.disposition.specs.ByOption.{isWaiting}
 use Rattle.sent_macros.specs.Sending.{sentOf, isAccepted}
 use Rattle.bulletin.specs.State as B
 use Rattle.bulletin.specs.Calls.{textData, useData}
@@ -31,8 +32,8 @@ isItem (Command c) = between 241 249 c
 
 -- None of the refusals that document 01 lists: of an item 1, 3 and 13, of a use 1, 6, 13 and 10. It is not read off the answer.
 abbrev pub isAllowed : B.BulletinState → Sending → Bool
-isAllowed b (item k w) = leb wireRoom w && isItem k && not (b .awaiting)
-isAllowed b (macroUse x w) = leb wireRoom w && B.bmInForce b && not (b .awaiting) && isAccepted (sentOf (b .table) x)
+isAllowed b (item k w) = leb wireRoom w && isItem k && not (isWaiting (b .waits))
+isAllowed b (macroUse x w) = leb wireRoom w && B.bmInForce b && not (isWaiting (b .waits)) && isAccepted (sentOf (b .table) x)
 
 abbrev pub Allowed : B.BulletinState → Sending → Type 0
 Allowed b c = isAllowed b c ≡ true

@@ -5,6 +5,7 @@ use mathlib.Core.List.{List, [], _∷_}
 use Prim.Native.Nat.{ℕ, _-_}
 use native.Mathlib.Omega.{arith}
 use lib.ListN.{length, getD, set}
+use lib.Seq.{getD-drop}
 use Rattle.lists.specs.Buffers.{Lent, lentAs, untouched, WroteBothAtStart, RoomFor}
 use Rattle.lists.proofs.Starts.{wrote-none, wrote-start}
 use Rattle.codes.specs.Answers.{noRoom, noteNumber}
@@ -12,9 +13,12 @@ use Rattle.codes.specs.declared.Code.the-variants.{Done, NoRoom}
 use Rattle.codes.specs.declared.Note.{Note}
 use Rattle.codes.specs.declared.Note.the-variants.{Clear}
 use Rattle.codes.proofs.Rooms.{both-lent}
+use Rattle.negotiation.specs.declared.Sides.{Sides}
+use Rattle.reader.specs.declared.Phase.{Phase}
 use Rattle.reader.specs.NetworkRun.{RunEffect, cannotBegin, ranFrom}
 use Rattle.reader.proofs.NetworkRun.{run-refused, run-begun, ran-plain, ran-none, further-stays, PlainAt}
 use Rattle.reader.proofs.RunLoop.{Stepped, Finished}
+use Rattle.disposition.specs.declared.Waits.{Waits}
 use Rattle.bulletin.specs.State.{BulletinState, Effect}
 use Rattle.bulletin.specs.Network.{networkRead}
 use Rattle.bulletin.specs.Calls.{networkCall}
@@ -28,10 +32,11 @@ use Rattle.bulletin.proofs.InPlace.{read-in-place, does-nothing, in-place-fits}
 use Rattle.bulletin.proofs.PlainBytes.{byte-plain}
 use Rattle.bulletin.proofs.Runs.{lawful, call-done}
 use Rattle.session_arrays.specs.declared.ByteOutcome.{ByteOutcome}
-use Rattle.session_arrays.specs.Numbers.{flagOf, sidesIn, phaseOf, runOutcome}
-use Rattle.session_arrays.specs.BulletinArrays.{BulletinArrays, decodedBulletin, smallOfBulletin, smallInPlace, encodedBulletin, LentBulletin, arraysOfBulletin}
+use Rattle.session_arrays.specs.Numbers.{sidesIn, phaseOf, runOutcome}
+use Rattle.session_arrays.specs.BulletinArrays.{BulletinArrays, waitsIn, decodedBulletin, smallInPlace, encodedBulletin, LentBulletin, arraysOfBulletin}
 use Rattle.session_arrays.specs.BulletinRuns.{SoundBulletin, RefinesByteOnBulletinArrays, RefinesRunOutcomeOnBulletinArrays, RefinesRunOnBulletinArrays, isPlainIn, inPlaceIn}
 use Rattle.session_arrays.proofs.BulletinArrays.{bulletin-found-again}
+use Rattle.session_arrays.proofs.Decoding.{option-state-found, phase-found, flag-found}
 
 -- the state that arrays stand for, as the rules see it
 abbrev pub viewArrays : BulletinArrays → BulletinState
@@ -63,28 +68,35 @@ byte-by-value b {before} {after} {host} {wire} {s} {a} room found refines stored
     rw (← same)
     (stands-for (a .state) (ap decodedBulletin stored ∙ bulletin-found-again (a .state)) (λ k. stored) (λ k. refines .clean (subst CleanBulletin (sym found) k)) (refines .note) (record { paper = refines .given; wire = refines .sent }) (refines .view))
 
--- a byte that was handled in place: all but the small parts stand where they stood
+-- the option states, the phase and the waits stored alone: the arrays then stand for the same state with these parts
+module _ (sides : Sides) (phase : Phase) (waits : Waits) where
+  abbrev storedInPlace : BulletinArrays → BulletinArrays
+  storedInPlace a = arraysOfBulletin (smallInPlace (a .small) sides phase waits) (a .counts) (a .body) (a .statuses) (a .marks) (a .cells)
+
+  in-place-found : (a : BulletinArrays) → decodedBulletin (storedInPlace a) ≡ inPlace (decodedBulletin a) sides phase waits
+  in-place-found a = simp (option-state-found, phase-found, flag-found, getD-drop)
+
+-- a byte that was handled in place
 pub byte-in-place : (b : ℕ) (before : BulletinArrays) {small : List ℕ} {host wire : Lent} {r : InPlace}
     → RefinesInPlace (inPlaceIn (before .small) b) host wire r → r .handled ≡ true
-    → small ≡ smallInPlace (before .small) (r .sides) (r .phase) (r .awaiting)
+    → small ≡ smallInPlace (before .small) (r .sides) (r .phase) (r .waits)
     → RefinesByteOnBulletinArrays (networkRead (viewArrays before) b)
     (lentArrays before (arraysOfBulletin small (before .counts) (before .body) (before .statuses) (before .marks) (before .cells)))
     host wire (record { note = Clear; first = r .host; wire = r .wire })
 byte-in-place b before {small} {host} {wire} {r} m h put =
     let s = decodedBulletin before in
     let e : InPlaceEffect = inPlaceIn (before .small) b in
-    let t = inPlace s (e .sides) (e .phase) (e .awaiting) in
-    let at : small ≡ smallOfBulletin t = rw (put, m .sides, m .phase, m .awaiting) in
+    let at : small ≡ smallInPlace (before .small) (e .sides) (e .phase) (e .waits) = rw (put, m .sides, m .phase, m .waits) in
     rw (read-in-place s b (sym (m .handled) ∙ h), at)
-    (stands-for t (bulletin-found-again t)
-    (λ k. ap (λ (counts : List ℕ). arraysOfBulletin (smallOfBulletin t) counts (before .body) (before .statuses) (before .marks) (before .cells)) (sym (ap (λ (a : BulletinArrays). a .counts) (k .encoded))))
+    (stands-for (inPlace s (e .sides) (e .phase) (e .waits)) (in-place-found (e .sides) (e .phase) (e .waits) before)
+    (λ k. ap (storedInPlace (e .sides) (e .phase) (e .waits)) (sym (k .encoded)))
     (λ k. record { reader = k .reader; table = k .table }) refl (m .wrote) refl)
 
 -- one that was not handled: both buffers are as they were
 module _ (small : List ℕ) (b : ℕ) {host wire : Lent} {r : InPlace} (m : RefinesInPlace (inPlaceIn small b) host wire r) (h : r .handled ≡ false) where
   still : (host .after ≡ host .before) × (wire .after ≡ wire .before)
   still =
-      let none = does-nothing (sidesIn small) (phaseOf (getD small 6 0)) (flagOf (getD small 8 0)) b (sym (m .handled) ∙ h) in
+      let none = does-nothing (sidesIn small) (phaseOf (getD small 9 0)) (waitsIn small) b (sym (m .handled) ∙ h) in
       let wrote : WroteBothAtStart [] [] host wire (r .host) (r .wire) = rw none at (m .wrote) in
       (wrote .paper .cells, wrote .wire .cells)
 

@@ -5,6 +5,7 @@ use mathlib.Core.List.{List}
 use Prim.Native.Nat.{ℕ}
 use native.Mathlib.Omega.{arith}
 use lib.ListN.{length}
+use lib.Seq.{getD-drop}
 use Rattle.lists.specs.Buffers.{Lent, lentAs, untouched, RoomFor}
 use Rattle.codes.specs.Answers.{noRoom}
 use Rattle.codes.specs.declared.Note.the-variants.{Clear}
@@ -31,7 +32,7 @@ module _ (sides : Sides) (phase : Phase) where
   storedInPlace a = withSmall a (smallInPlace (a .small) sides phase)
 
   pub in-place-found : (a : PrinterArrays) → decodedPrinter (storedInPlace a) ≡ inPlace (decodedPrinter a) sides phase
-  in-place-found a = simp (option-state-found, phase-found)
+  in-place-found a = simp (option-state-found, phase-found, getD-drop)
 
   pub in-place-sound : (a : PrinterArrays) → SoundPrinter a → SoundPrinter (storedInPlace a)
   in-place-sound a k = record {

@@ -1,27 +1,28 @@
 -- The bulletin end as arrays of numbers that a host lends.
 use mathlib.Core.Path.{_≡_}
-use mathlib.Core.Bool.{Bool, cond}
-use mathlib.Core.List.{List, [], _∷_}
+use mathlib.Core.Bool.{cond}
+use mathlib.Core.List.{List, [], _∷_, _++_}
 use Prim.Native.Nat.{ℕ}
-use lib.ListN.{getD}
+use lib.ListN.{getD, drop}
 use denote.Ref.{RefT}
 use denote.Triple.Both.{Both}
 use Rattle.lists.specs.Buffers.{Lent}
 use Rattle.codes.specs.Answers.{codeNumber, noteNumber, isDone}
 use Rattle.negotiation.specs.declared.Sides.{Sides}
 use Rattle.reader.specs.declared.Phase.{Phase}
+use Rattle.disposition.specs.declared.Waits.{Waits}
 use Rattle.sent_macros.specs.Sending.{statusNumber}
 use Rattle.bulletin.specs.State.{BulletinState, CallEffect}
-use Rattle.bulletin.specs.Calls.{macroStatus, returnsReport, outputNow}
+use Rattle.bulletin.specs.Calls.{macroStatus, dispositionsReport, outputNow}
 use Rattle.bulletin.specs.Refinement.{viewBulletin, RefinesAnswer, RefinesAnswerOnWire}
 use Rattle.bulletin.specs.declared.Bulletin.{Bulletin}
 use Rattle.bulletin.specs.declared.Answer.{Answer}
 use Rattle.session_arrays.specs.declared.Outcome.{Outcome}
 use Rattle.session_arrays.specs.declared.Reported.{Reported}
-use Rattle.session_arrays.specs.Numbers.{flagNumber, flagOf, sidesIn, readerIn, smallOf, reportIn, outputNumber}
+use Rattle.session_arrays.specs.Numbers.{flagNumber, flagOf, sidesIn, readerIn, sidesAndPhase, smallOf, valuesIn, valueNumbers, reportsIn, outputNumber}
 
--- small: the states of the six sides, the reader's phase and whether its body is marred, whether output waits, DS and DR.
--- counts: bytes of the body.
+-- small: the states of the nine sides, the reader's phase and whether its body is marred, whether output waits for each option about
+-- output disposition, DS and DR of each. counts: bytes of the body.
 pub record BulletinArrays : Type 0 where
   pub small : List ℕ
   pub counts : List ℕ
@@ -30,23 +31,33 @@ pub record BulletinArrays : Type 0 where
   pub marks : List ℕ
   pub cells : List ℕ
 
+abbrev pub waitsIn : List ℕ → Waits
+waitsIn small = record {
+  naocrd = flagOf (getD small 11 0);
+  naolfd = flagOf (getD small 12 0);
+  naoffd = flagOf (getD small 13 0);
+  naohtd = flagOf (getD small 14 0);
+}
+
+abbrev pub waitNumbers : Waits → List ℕ
+waitNumbers w = flagNumber (w .naocrd) ∷ flagNumber (w .naolfd) ∷ flagNumber (w .naoffd) ∷ flagNumber (w .naohtd) ∷ []
+
 -- every record of arrays is a state
 abbrev pub decodedBulletin : BulletinArrays → Bulletin
 decodedBulletin a = record {
   sides = sidesIn (a .small);
   reader = readerIn (a .small) (a .counts) (a .body);
   table = record { statuses = a .statuses; texts = record { marks = a .marks; cells = a .cells } };
-  values = record { ds = getD (a .small) 9 0; dr = getD (a .small) 10 0 };
-  awaiting = flagOf (getD (a .small) 8 0);
+  values = valuesIn (a .small) 15;
+  waits = waitsIn (a .small);
 }
 
 abbrev pub smallOfBulletin : Bulletin → List ℕ
-smallOfBulletin b = smallOf (b .sides) (b .reader) (flagNumber (b .awaiting) ∷ b .values .ds ∷ b .values .dr ∷ [])
+smallOfBulletin b = smallOf (b .sides) (b .reader) (waitNumbers (b .waits) ++ valueNumbers (b .values))
 
--- the small parts with other option states, another phase and another wait
-abbrev pub smallInPlace : List ℕ → Sides → Phase → (awaiting : Bool) → List ℕ
-smallInPlace small sides phase awaiting =
-    smallOf sides (record { phase = phase; marred = flagOf (getD small 7 0); body = []; len = 0 }) (flagNumber awaiting ∷ getD small 9 0 ∷ getD small 10 0 ∷ [])
+-- the small parts with other option states, another phase and other waits, the rest as it was
+abbrev pub smallInPlace : List ℕ → Sides → Phase → Waits → List ℕ
+smallInPlace small sides phase waits = sidesAndPhase sides phase ++ getD small 10 0 ∷ waitNumbers waits ++ drop 15 small
 
 abbrev pub encodedBulletin : Bulletin → BulletinArrays
 encodedBulletin b = record {
@@ -94,7 +105,7 @@ pub record RefinesOnBulletinArraysWire (rule : BulletinState → ℕ → CallEff
 
 -- what a question owes that looks at some of the arrays: the answer of the end, whatever the others hold
 pub record ReportsBulletin (small : List ℕ) (r : Reported) : Type 0 where
-  pub met : (a : BulletinArrays) → a .small ≡ small → reportIn r ≡ returnsReport (viewBulletin (decodedBulletin a))
+  pub met : (a : BulletinArrays) → a .small ≡ small → reportsIn r ≡ dispositionsReport (viewBulletin (decodedBulletin a))
 
 pub record SaysOutput (small : List ℕ) (n : ℕ) : Type 0 where
   pub met : (a : BulletinArrays) → a .small ≡ small → n ≡ outputNumber (outputNow (viewBulletin (decodedBulletin a)))

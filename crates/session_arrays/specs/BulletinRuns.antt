@@ -14,8 +14,8 @@ use Rattle.bulletin.specs.Stretches.{dataStretch, isPlainByte}
 use Rattle.bulletin.specs.Refinement.{viewBulletin, CleanBulletin}
 use Rattle.session_arrays.specs.declared.ByteOutcome.{ByteOutcome}
 use Rattle.session_arrays.specs.declared.RunOutcome.{RunOutcome}
-use Rattle.session_arrays.specs.Numbers.{flagOf, sidesIn, phaseOf}
-use Rattle.session_arrays.specs.BulletinArrays.{BulletinArrays, decodedBulletin, encodedBulletin, LentBulletin}
+use Rattle.session_arrays.specs.Numbers.{sidesIn, phaseOf}
+use Rattle.session_arrays.specs.BulletinArrays.{BulletinArrays, waitsIn, decodedBulletin, encodedBulletin, LentBulletin}
 
 -- the arrays as a session leaves them, as at the printer end
 pub record SoundBulletin (a : BulletinArrays) : Type 0 where
@@ -45,10 +45,10 @@ RefinesRunOnBulletinArrays rule arrays host wire r = RefinesRunOutcomeOnBulletin
 
 -- what the small parts alone decide: how many bytes at the front are plain, whether one byte is, and what a byte does in place
 abbrev pub stretchIn : (small bytes : List ℕ) → ℕ
-stretchIn small bytes = dataStretch (phaseOf (getD small 6 0)) (flagOf (getD small 8 0)) bytes
+stretchIn small bytes = dataStretch (phaseOf (getD small 9 0)) (waitsIn small) bytes
 
 abbrev pub isPlainIn : (small : List ℕ) → ℕ → Bool
-isPlainIn small b = isPlainByte (phaseOf (getD small 6 0)) (flagOf (getD small 8 0)) b
+isPlainIn small b = isPlainByte (phaseOf (getD small 9 0)) (waitsIn small) b
 
 abbrev pub inPlaceIn : (small : List ℕ) → ℕ → InPlaceEffect
-inPlaceIn small b = inPlaceRead (sidesIn small) (phaseOf (getD small 6 0)) (flagOf (getD small 8 0)) b
+inPlaceIn small b = inPlaceRead (sidesIn small) (phaseOf (getD small 9 0)) (waitsIn small) b

@@ -1,7 +1,7 @@
 -- The parts of a state as numbers, for a record of arrays. Every number decodes.
 use mathlib.Core.Bool.{Bool, true, false, not, cond}
-use mathlib.Core.List.{List, [], _∷_}
-use Prim.Native.Nat.{ℕ}
+use mathlib.Core.List.{List, [], _∷_, _++_}
+use Prim.Native.Nat.{ℕ, _+_}
 use lib.Dec.{eqb}
 use lib.ListN.{getD}
 use Rattle.codes.specs.Answers.{codeNumber, noteNumber}
@@ -13,13 +13,14 @@ use Rattle.keys.specs.declared.Key.the-variants.{Char, Line, Command}
 use Rattle.negotiation.specs.declared.OptionState.{OptionState}
 use Rattle.negotiation.specs.declared.OptionState.the-variants.{No, Yes, WantNo, WantNoOpposite, WantYes, WantYesOpposite}
 use Rattle.negotiation.specs.declared.Sides.{Sides}
-use Rattle.negotiation.specs.Table.{isYes}
 use Rattle.reader.specs.declared.Phase.{Phase}
 use Rattle.reader.specs.declared.Phase.the-variants.{Between, AfterIac, AfterVerb, InBody, InBodyAfterIac}
 use Rattle.reader.specs.declared.Reader.{Reader}
-use Rattle.disposition.specs.Returns.{Report, reportOf, handlingWhile}
+use Rattle.disposition.specs.declared.AllValues.{AllValues}
+use Rattle.disposition.specs.Handled.{Report}
 use Rattle.bulletin.specs.declared.Output.{Output}
 use Rattle.bulletin.specs.declared.Output.the-variants.{Ready, Waiting}
+use Rattle.session_arrays.specs.declared.Handler.{Handler}
 use Rattle.session_arrays.specs.declared.Reported.{Reported}
 use Rattle.session_arrays.specs.declared.RunOutcome.{RunOutcome}
 use Rattle.session_arrays.specs.declared.SideNumbers.{SideNumbers}
@@ -67,22 +68,21 @@ flagNumber false = 0
 abbrev pub flagOf : ℕ → Bool
 flagOf n = not (eqb n 0)
 
--- at either end the small parts begin with the states of the six sides, the reader's phase and whether its body is marred
-abbrev pub sidesIn : List ℕ → Sides
-sidesIn small = record {
-  echo = optionStateOf (getD small 0 0);
-  sga = optionStateOf (getD small 1 0);
-  rcte = optionStateOf (getD small 2 0);
-  bm = optionStateOf (getD small 3 0);
-  printersga = optionStateOf (getD small 4 0);
-  naocrd = optionStateOf (getD small 5 0);
+-- the nine sides' states from their numbers, and back
+abbrev pub sidesOf : SideNumbers → Sides
+sidesOf n = record {
+  echo = optionStateOf (n .echo);
+  sga = optionStateOf (n .sga);
+  rcte = optionStateOf (n .rcte);
+  bm = optionStateOf (n .bm);
+  printersga = optionStateOf (n .printersga);
+  dispositions = record {
+    naocrd = optionStateOf (n .naocrd);
+    naolfd = optionStateOf (n .naolfd);
+    naoffd = optionStateOf (n .naoffd);
+    naohtd = optionStateOf (n .naohtd);
+  };
 }
-
-abbrev pub readerFrom : (phase marred len : ℕ) → List ℕ → Reader
-readerFrom phase marred len body = record { phase = phaseOf phase; marred = flagOf marred; body = body; len = len }
-
-abbrev pub readerIn : (small counts body : List ℕ) → Reader
-readerIn small counts body = readerFrom (getD small 6 0) (getD small 7 0) (getD counts 0 0) body
 
 abbrev pub sideNumbers : Sides → SideNumbers
 sideNumbers s = record {
@@ -91,21 +91,60 @@ sideNumbers s = record {
   rcte = optionStateNumber (s .rcte);
   bm = optionStateNumber (s .bm);
   printersga = optionStateNumber (s .printersga);
-  naocrd = optionStateNumber (s .naocrd);
+  naocrd = optionStateNumber (s .dispositions .naocrd);
+  naolfd = optionStateNumber (s .dispositions .naolfd);
+  naoffd = optionStateNumber (s .dispositions .naoffd);
+  naohtd = optionStateNumber (s .dispositions .naohtd);
 }
+
+-- at either end the small parts begin with the states of the nine sides, the reader's phase and whether its body is marred
+abbrev pub sidesIn : List ℕ → Sides
+sidesIn small = sidesOf (record {
+  echo = getD small 0 0;
+  sga = getD small 1 0;
+  rcte = getD small 2 0;
+  bm = getD small 3 0;
+  printersga = getD small 4 0;
+  naocrd = getD small 5 0;
+  naolfd = getD small 6 0;
+  naoffd = getD small 7 0;
+  naohtd = getD small 8 0;
+})
+
+abbrev pub readerFrom : (phase marred len : ℕ) → List ℕ → Reader
+readerFrom phase marred len body = record { phase = phaseOf phase; marred = flagOf marred; body = body; len = len }
+
+abbrev pub readerIn : (small counts body : List ℕ) → Reader
+readerIn small counts body = readerFrom (getD small 9 0) (getD small 10 0) (getD counts 0 0) body
+
+abbrev pub sidesAndPhase : Sides → Phase → List ℕ
+sidesAndPhase s phase =
+    let n = sideNumbers s in
+    n .echo ∷ n .sga ∷ n .rcte ∷ n .bm ∷ n .printersga ∷ n .naocrd ∷ n .naolfd ∷ n .naoffd ∷ n .naohtd ∷ phaseNumber phase ∷ []
 
 -- .. followed by the parts that are an end's own
 abbrev pub smallOf : Sides → Reader → List ℕ → List ℕ
-smallOf s r own =
-    optionStateNumber (s .echo) ∷ optionStateNumber (s .sga) ∷ optionStateNumber (s .rcte) ∷ optionStateNumber (s .bm)
-    ∷ optionStateNumber (s .printersga) ∷ optionStateNumber (s .naocrd) ∷ phaseNumber (r .phase) ∷ flagNumber (r .marred) ∷ own
+smallOf s r own = sidesAndPhase s (r .phase) ++ flagNumber (r .marred) ∷ own
 
--- a report in numbers, and the one that an end gives by the number of NAOCRD's state and its two values
-abbrev pub reportIn : Reported → Report
-reportIn r = record { who = r .who; value = r .value }
+-- with DS and DR of each option about output disposition they end; at which place these begin is an end's own
+abbrev pub valuesIn : (small : List ℕ) → (from : ℕ) → AllValues
+valuesIn small from = record {
+  naocrd = record { ds = getD small from 0; dr = getD small (from + 1) 0 };
+  naolfd = record { ds = getD small (from + 2) 0; dr = getD small (from + 3) 0 };
+  naoffd = record { ds = getD small (from + 4) 0; dr = getD small (from + 5) 0 };
+  naohtd = record { ds = getD small (from + 6) 0; dr = getD small (from + 7) 0 };
+}
 
-abbrev pub reportFrom : (naocrd ds dr : ℕ) → Report
-reportFrom naocrd ds dr = reportOf (handlingWhile (isYes (optionStateOf naocrd)) (record { ds = ds; dr = dr }))
+abbrev pub valueNumbers : AllValues → List ℕ
+valueNumbers v =
+    v .naocrd .ds ∷ v .naocrd .dr ∷ v .naolfd .ds ∷ v .naolfd .dr ∷ v .naoffd .ds ∷ v .naoffd .dr ∷ v .naohtd .ds ∷ v .naohtd .dr ∷ []
+
+-- a report in numbers, as an end's report has them
+abbrev pub reportIn : Handler → Report
+reportIn h = record { who = h .who; value = h .value }
+
+abbrev pub reportsIn : Reported → List Report
+reportsIn r = reportIn (r .naocrd) ∷ reportIn (r .naolfd) ∷ reportIn (r .naoffd) ∷ reportIn (r .naohtd) ∷ []
 
 abbrev pub outputNumber : Output → ℕ
 outputNumber Ready = 0

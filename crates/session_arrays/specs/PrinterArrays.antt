@@ -1,9 +1,9 @@
 -- The printer end as arrays of numbers that a host lends.
 use mathlib.Core.Path.{_≡_}
 use mathlib.Core.Bool.{cond}
-use mathlib.Core.List.{List, [], _∷_}
+use mathlib.Core.List.{List, [], _∷_, _++_}
 use Prim.Native.Nat.{ℕ}
-use lib.ListN.{length, getD}
+use lib.ListN.{length, getD, drop}
 use denote.Ref.{RefT}
 use denote.Triple.Both.{Both}
 use Rattle.lists.specs.Buffers.{Lent}
@@ -13,16 +13,17 @@ use Rattle.reader.specs.declared.Phase.{Phase}
 use Rattle.rcte.specs.Control.{waitRoom}
 use Rattle.rcte.specs.declared.Rcte.{Rcte}
 use Rattle.printer.specs.State.{PrinterState, CallEffect}
-use Rattle.printer.specs.Calls.{returnsReport, waitingCount}
+use Rattle.printer.specs.Calls.{dispositionsReport, waitingCount}
 use Rattle.printer.specs.Refinement.{viewPrinter, RefinesAnswer}
 use Rattle.printer.specs.declared.Printer.{Printer}
 use Rattle.printer.specs.declared.Answer.{Answer}
 use Rattle.session_arrays.specs.declared.Outcome.{Outcome}
 use Rattle.session_arrays.specs.declared.Reported.{Reported}
-use Rattle.session_arrays.specs.Numbers.{optionStateNumber, phaseNumber, flagNumber, flagOf, sidesIn, readerIn, smallOf, reportIn}
+use Rattle.session_arrays.specs.Numbers.{flagNumber, flagOf, sidesIn, readerIn, sidesAndPhase, smallOf, valuesIn, valueNumbers, reportsIn}
 
--- small: the states of the six sides, the reader's phase and whether its body is marred, RCTE's hold, the two bits of its
--- action, DS and DR. classes: RCTE's break and transmission classes. counts: bytes of the body, waiting keys, gathered bytes.
+-- small: the states of the nine sides, the reader's phase and whether its body is marred, RCTE's hold, the two bits of its
+-- action, DS and DR of each option about output disposition. classes: RCTE's break and transmission classes. counts: bytes of the
+-- body, waiting keys, gathered bytes.
 pub record PrinterArrays : Type 0 where
   pub small : List ℕ
   pub classes : List ℕ
@@ -35,8 +36,8 @@ pub record PrinterArrays : Type 0 where
 
 abbrev pub rcteIn : (small classes counts waiting gathered : List ℕ) → Rcte
 rcteIn small classes counts waiting gathered = record {
-  held = flagOf (getD small 8 0);
-  action = record { skipbreak = flagOf (getD small 9 0); skiptext = flagOf (getD small 10 0) };
+  held = flagOf (getD small 11 0);
+  action = record { skipbreak = flagOf (getD small 12 0); skiptext = flagOf (getD small 13 0) };
   breaks = getD classes 0 0;
   sends = getD classes 1 0;
   waiting = waiting;
@@ -52,20 +53,17 @@ decodedPrinter a = record {
   reader = readerIn (a .small) (a .counts) (a .body);
   table = record { marks = a .marks; cells = a .cells };
   rcte = rcteIn (a .small) (a .classes) (a .counts) (a .waiting) (a .gathered);
-  values = record { ds = getD (a .small) 11 0; dr = getD (a .small) 12 0 };
+  values = valuesIn (a .small) 14;
 }
 
 abbrev pub smallOfPrinter : Printer → List ℕ
 smallOfPrinter p =
     smallOf (p .sides) (p .reader)
-    (flagNumber (p .rcte .held) ∷ flagNumber (p .rcte .action .skipbreak) ∷ flagNumber (p .rcte .action .skiptext) ∷ p .values .ds ∷ p .values .dr ∷ [])
+    (flagNumber (p .rcte .held) ∷ flagNumber (p .rcte .action .skipbreak) ∷ flagNumber (p .rcte .action .skiptext) ∷ valueNumbers (p .values))
 
--- the small parts with other option states and another phase
+-- the small parts with other option states and another phase, the rest as it was
 abbrev pub smallInPlace : List ℕ → Sides → Phase → List ℕ
-smallInPlace small s phase =
-    optionStateNumber (s .echo) ∷ optionStateNumber (s .sga) ∷ optionStateNumber (s .rcte) ∷ optionStateNumber (s .bm)
-    ∷ optionStateNumber (s .printersga) ∷ optionStateNumber (s .naocrd) ∷ phaseNumber phase
-    ∷ getD small 7 0 ∷ getD small 8 0 ∷ getD small 9 0 ∷ getD small 10 0 ∷ getD small 11 0 ∷ getD small 12 0 ∷ []
+smallInPlace small sides phase = sidesAndPhase sides phase ++ drop 10 small
 
 abbrev pub encodedPrinter : Printer → PrinterArrays
 encodedPrinter p = record {
@@ -110,7 +108,7 @@ pub record RefinesOnPrinterArrays (rule : PrinterState → ℕ → ℕ → CallE
 
 -- what a question owes that looks at one array alone: the answer of the end, whatever the others hold
 pub record ReportsPrinter (small : List ℕ) (r : Reported) : Type 0 where
-  pub met : (a : PrinterArrays) → a .small ≡ small → reportIn r ≡ returnsReport (viewPrinter (decodedPrinter a))
+  pub met : (a : PrinterArrays) → a .small ≡ small → reportsIn r ≡ dispositionsReport (viewPrinter (decodedPrinter a))
 
 pub record CountsWaiting (counts : List ℕ) (n : ℕ) : Type 0 where
   pub met : (a : PrinterArrays) → a .counts ≡ counts → length (a .waiting) ≡ waitRoom → n ≡ waitingCount (viewPrinter (decodedPrinter a))

@@ -46,15 +46,15 @@ RefinesRunOnPrinterArrays rule arrays paper wire r = RefinesRunOutcomeOnPrinterA
 
 -- how many bytes at the front are plain, by the parts that this takes
 abbrev pub stretchIn : (small marks bytes : List ℕ) → ℕ
-stretchIn small marks bytes = dataStretch (sidesIn small) (phaseOf (getD small 6 0)) (flagOf (getD small 8 0)) marks bytes
+stretchIn small marks bytes = dataStretch (sidesIn small) (phaseOf (getD small 9 0)) (flagOf (getD small 11 0)) marks bytes
 
 -- .. and whether one byte is
 abbrev pub isPlainIn : (small marks : List ℕ) → ℕ → Bool
-isPlainIn small marks b = isPlainByte (sidesIn small) (phaseOf (getD small 6 0)) (flagOf (getD small 8 0)) marks b
+isPlainIn small marks b = isPlainByte (sidesIn small) (phaseOf (getD small 9 0)) (flagOf (getD small 11 0)) marks b
 
 -- a byte read in place, from the small parts and the macros alone
 abbrev pub inPlaceIn : (small marks cells : List ℕ) → ℕ → InPlaceEffect
-inPlaceIn small marks cells b = inPlaceRead (sidesIn small) (phaseOf (getD small 6 0)) (flagOf (getD small 8 0)) (tableIn marks cells) b
+inPlaceIn small marks cells b = inPlaceRead (sidesIn small) (phaseOf (getD small 9 0)) (flagOf (getD small 11 0)) (tableIn marks cells) b
 
 -- .. its option states and phase are stored if it is handled, else the small parts stay as they were
 pub record RefinesStoredInPlace (e : InPlaceEffect) (small paper wire : Lent) (r : InPlaceOutcome) : Type 0 where

@@ -25,34 +25,35 @@ use reader::BODY_ROOM;
 use received_macros::ROOM;
 
 // How many bytes at the front are plain.
-fn plain_front(small: &[u8; 11], bytes: &[u8]) -> usize
+fn plain_front(small: &[u8; 23], bytes: &[u8]) -> usize
     ensures { λ r. ⌜ r ≡ stretchIn (now (small .entry)) (now (bytes .entry)) ⌝ }
 {
-    let phase = numbers::phase_of(small[6]);
-    stretches::data_stretch(phase, small[8] != 0, bytes)
+    let phase = numbers::phase_of(small[9]);
+    stretches::data_stretch(phase, bulletin_arrays::waits_in(small), bytes)
 }
 
 // A byte by itself is plain.
-pub fn is_plain(small: &[u8; 11], b: u8) -> bool
+pub fn is_plain(small: &[u8; 23], b: u8) -> bool
     ensures { λ r. ⌜ r ≡ isPlainIn (now (small .entry)) b ⌝ }
 {
-    let phase = numbers::phase_of(small[6]);
-    stretches::is_plain(phase, small[8] != 0, b)
+    let phase = numbers::phase_of(small[9]);
+    stretches::is_plain(phase, bulletin_arrays::waits_in(small), b)
 }
 
 // What a byte does to the small parts, if it changes nothing else.
-fn read_in_place(small: &[u8; 11], b: u8, host: &mut [u8], wire: &mut [u8]) -> InPlace
+fn read_in_place(small: &[u8; 23], b: u8, host: &mut [u8], wire: &mut [u8]) -> InPlace
     requires { ⌜ noRoom (length (now host)) (length (now wire)) ≡ false ⌝ }
     ensures { λ r. ⌜ RefinesInPlace (inPlaceIn (now (small .entry)) b) (lent host) (lent wire) r ⌝ }
 {
-    let sides = numbers::sides_of(small[0], small[1], small[2], small[3], small[4], small[5]);
-    let phase = numbers::phase_of(small[6]);
-    in_place::read(sides, phase, small[8] != 0, b, host, wire)
+    let sides = bulletin_arrays::sides_in(small);
+    let phase = numbers::phase_of(small[9]);
+    let waits = bulletin_arrays::waits_in(small);
+    in_place::read(sides, phase, waits, b, host, wire)
 }
 
 // A byte by value, the state stored.
 fn read_by_value(
-    small: &mut [u8; 11],
+    small: &mut [u8; 23],
     counts: &mut [usize; 1],
     body: &mut [u8; BODY_ROOM],
     statuses: &mut [u8; 256],
@@ -79,7 +80,7 @@ fn read_by_value(
 
 // A byte that has room.
 fn byte_read(
-    small: &mut [u8; 11],
+    small: &mut [u8; 23],
     counts: &mut [usize; 1],
     body: &mut [u8; BODY_ROOM],
     statuses: &mut [u8; 256],
@@ -96,7 +97,8 @@ fn byte_read(
     if e.handled {
         let sides = e.sides;
         let phase = e.phase;
-        bulletin_arrays::put_in_place(sides, phase, e.awaiting, small);
+        let waits = e.waits;
+        bulletin_arrays::put_in_place(sides, phase, waits, small);
         return ByteOutcome {
             note: Note::Clear,
             first: e.host,
@@ -108,7 +110,7 @@ fn byte_read(
 
 // A run whose first byte has room.
 pub fn read_bytes(
-    small: &mut [u8; 11],
+    small: &mut [u8; 23],
     counts: &mut [usize; 1],
     body: &mut [u8; BODY_ROOM],
     statuses: &mut [u8; 256],

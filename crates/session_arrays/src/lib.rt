@@ -27,14 +27,23 @@ pub struct RunOutcome {
     pub wire: usize,
 }
 
-// A report in numbers: who handles carriage returns, 0 the receiver and 1 the sender, and by which value.
+// Who handles the character of an option about output disposition, 0 the receiver and 1 the sender, and by which value.
 #[repr(C)]
-pub struct Reported {
+pub struct Handler {
     pub who: u8,
     pub value: u8,
 }
 
-// The numbers of the six sides' states.
+// A report in numbers.
+#[repr(C)]
+pub struct Reported {
+    pub naocrd: Handler,
+    pub naolfd: Handler,
+    pub naoffd: Handler,
+    pub naohtd: Handler,
+}
+
+// The numbers of the nine sides' states.
 pub struct SideNumbers {
     pub echo: u8,
     pub sga: u8,
@@ -42,6 +51,9 @@ pub struct SideNumbers {
     pub bm: u8,
     pub printersga: u8,
     pub naocrd: u8,
+    pub naolfd: u8,
+    pub naoffd: u8,
+    pub naohtd: u8,
 }
 
 // One byte of a run: its note, and how many bytes went to the paper or the host and to the wire.

@@ -1,15 +1,18 @@
 // The parts of a state as numbers and back. Every number decodes.
 ghost use mathlib.Core.Path.{_≡_};
-ghost use mathlib.Core.List.{[], _∷_};
-ghost use Rattle.session_arrays.specs.Numbers.{optionStateNumber, optionStateOf, phaseNumber, phaseOf, flagNumber, sidesIn, sideNumbers, readerFrom, reportIn, reportFrom, runOutcome, keyOfPair};
+ghost use Rattle.disposition.specs.Handled.{reportOf, reportsOf, handlingsIn};
+ghost use Rattle.session_arrays.specs.Numbers.{optionStateNumber, optionStateOf, phaseNumber, phaseOf, flagNumber, sidesOf, sideNumbers, readerFrom, reportIn, reportsIn, runOutcome, keyOfPair};
+use crate::Handler;
 use crate::Reported;
 use crate::RunOutcome;
 use crate::SideNumbers;
 use codes::Code;
 use codes::Note;
 use codes::Verb;
-use disposition::Values;
+use disposition::AllValues;
+use disposition::Handling;
 use keys::Key;
+use negotiation::DispositionStates;
 use negotiation::OptionState;
 use negotiation::Sides;
 use reader::BODY_ROOM;
@@ -87,23 +90,38 @@ pub fn flag_number(b: bool) -> u8
     if b { 1 } else { 0 }
 }
 
-// The states of the six sides from their numbers.
-pub fn sides_of(echo: u8, sga: u8, rcte: u8, bm: u8, printersga: u8, naocrd: u8) -> Sides
-    ensures { λ r. ⌜ r ≡ sidesIn (echo ∷ sga ∷ rcte ∷ bm ∷ printersga ∷ naocrd ∷ []) ⌝ }
+fn dispositions_of(n: SideNumbers) -> DispositionStates
+    ensures { λ r. ⌜ r ≡ sidesOf n .dispositions ⌝ }
 {
-    let echo = option_state_of(echo);
-    let sga = option_state_of(sga);
-    let rcte = option_state_of(rcte);
-    let bm = option_state_of(bm);
-    let printersga = option_state_of(printersga);
-    let naocrd = option_state_of(naocrd);
+    let naocrd = option_state_of(n.naocrd);
+    let naolfd = option_state_of(n.naolfd);
+    let naoffd = option_state_of(n.naoffd);
+    let naohtd = option_state_of(n.naohtd);
+    DispositionStates {
+        naocrd,
+        naolfd,
+        naoffd,
+        naohtd,
+    }
+}
+
+// The states of the nine sides from their numbers.
+pub fn sides_of(n: SideNumbers) -> Sides
+    ensures { λ r. ⌜ r ≡ sidesOf n ⌝ }
+{
+    let echo = option_state_of(n.echo);
+    let sga = option_state_of(n.sga);
+    let rcte = option_state_of(n.rcte);
+    let bm = option_state_of(n.bm);
+    let printersga = option_state_of(n.printersga);
+    let dispositions = dispositions_of(n);
     Sides {
         echo,
         sga,
         rcte,
         bm,
         printersga,
-        naocrd,
+        dispositions,
     }
 }
 
@@ -115,7 +133,11 @@ pub fn side_numbers(s: Sides) -> SideNumbers
     let rcte = s.rcte;
     let bm = s.bm;
     let printersga = s.printersga;
-    let naocrd = s.naocrd;
+    let dispositions = s.dispositions;
+    let naocrd = dispositions.naocrd;
+    let naolfd = dispositions.naolfd;
+    let naoffd = dispositions.naoffd;
+    let naohtd = dispositions.naohtd;
     SideNumbers {
         echo: option_state_number(echo),
         sga: option_state_number(sga),
@@ -123,6 +145,9 @@ pub fn side_numbers(s: Sides) -> SideNumbers
         bm: option_state_number(bm),
         printersga: option_state_number(printersga),
         naocrd: option_state_number(naocrd),
+        naolfd: option_state_number(naolfd),
+        naoffd: option_state_number(naoffd),
+        naohtd: option_state_number(naohtd),
     }
 }
 
@@ -138,17 +163,29 @@ pub fn reader_of(phase: u8, marred: u8, len: usize, body: &[u8; BODY_ROOM]) -> R
     }
 }
 
-// Who handles carriage returns and by which value, in numbers: from NAOCRD's state and the two values.
-pub fn reported(naocrd: u8, ds: u8, dr: u8) -> Reported
-    ensures { λ r. ⌜ reportIn r ≡ reportFrom naocrd ds dr ⌝ }
+fn handler_of(h: Handling) -> Handler
+    ensures { λ r. ⌜ reportIn r ≡ reportOf h ⌝ }
 {
-    let state = option_state_of(naocrd);
-    let on = negotiation::is_yes(state);
-    let values = Values { ds, dr };
-    let h = disposition::handling_while(on, values);
-    Reported {
+    Handler {
         who: disposition::handler_number(h),
         value: disposition::handling_value(h),
+    }
+}
+
+// Of each option about output disposition who handles its character and by which value, in numbers.
+pub fn reported(sides: Sides, values: AllValues) -> Reported
+    ensures { λ r. ⌜ reportsIn r ≡ reportsOf (handlingsIn sides values) ⌝ }
+{
+    let h = disposition::handlings_in(sides, values);
+    let naocrd = h.naocrd;
+    let naolfd = h.naolfd;
+    let naoffd = h.naoffd;
+    let naohtd = h.naohtd;
+    Reported {
+        naocrd: handler_of(naocrd),
+        naolfd: handler_of(naolfd),
+        naoffd: handler_of(naoffd),
+        naohtd: handler_of(naohtd),
     }
 }
 

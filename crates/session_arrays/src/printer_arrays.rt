@@ -1,5 +1,6 @@
 // The printer end's state in arrays that the host lends: found there, and stored there.
 ghost use mathlib.Core.Path.{_≡_};
+ghost use Rattle.session_arrays.specs.Numbers.{sidesIn, valuesIn};
 ghost use Rattle.session_arrays.specs.PrinterArrays.{
   arraysOfPrinter,
   rcteIn,
@@ -11,8 +12,10 @@ ghost use Rattle.session_arrays.specs.PrinterArrays.{
   KeepsPrinter,
 };
 use crate::Outcome;
+use crate::SideNumbers;
 use crate::numbers;
 use bodies::Action;
+use disposition::AllValues;
 use disposition::Values;
 use negotiation::Sides;
 use printer::Answer;
@@ -25,8 +28,48 @@ use reader::Phase;
 use received_macros::ROOM;
 use received_macros::Texts;
 
+pub fn sides_in(small: &[u8; 22]) -> Sides
+    ensures { λ r. ⌜ r ≡ sidesIn (now (small .entry)) ⌝ }
+{
+    let n = SideNumbers {
+        echo: small[0],
+        sga: small[1],
+        rcte: small[2],
+        bm: small[3],
+        printersga: small[4],
+        naocrd: small[5],
+        naolfd: small[6],
+        naoffd: small[7],
+        naohtd: small[8],
+    };
+    numbers::sides_of(n)
+}
+
+pub fn values_in(small: &[u8; 22]) -> AllValues
+    ensures { λ r. ⌜ r ≡ valuesIn (now (small .entry)) 14 ⌝ }
+{
+    AllValues {
+        naocrd: Values {
+            ds: small[14],
+            dr: small[15],
+        },
+        naolfd: Values {
+            ds: small[16],
+            dr: small[17],
+        },
+        naoffd: Values {
+            ds: small[18],
+            dr: small[19],
+        },
+        naohtd: Values {
+            ds: small[20],
+            dr: small[21],
+        },
+    }
+}
+
 fn rcte_of(
-    small: &[u8; 13],
+    small: &[u8; 22],
     classes: &[u16; 2],
     counts: &[usize; 3],
     waiting: &[u16; WAIT_ROOM],
@@ -35,11 +78,11 @@ fn rcte_of(
     ensures { λ r. ⌜ r ≡ rcteIn (now (small .entry)) (now (classes .entry)) (now (counts .entry)) (now (waiting .entry)) (now (gathered .entry)) ⌝ }
 {
     let action = Action {
-        skipbreak: small[9] != 0,
-        skiptext: small[10] != 0,
+        skipbreak: small[12] != 0,
+        skiptext: small[13] != 0,
     };
     Rcte {
-        held: small[8] != 0,
+        held: small[11] != 0,
         action,
         breaks: classes[0],
         sends: classes[1],
@@ -51,7 +94,7 @@ fn rcte_of(
 }
 
 pub fn decoded(
-    small: &[u8; 13],
+    small: &[u8; 22],
     classes: &[u16; 2],
     counts: &[usize; 3],
     body: &[u8; BODY_ROOM],
@@ -62,17 +105,14 @@ pub fn decoded(
 ) -> Printer
     ensures { λ r. ⌜ r ≡ decodedPrinter (arraysOfPrinter (now (small .entry)) (now (classes .entry)) (now (counts .entry)) (now (body .entry)) (now (marks .entry)) (now (cells .entry)) (now (waiting .entry)) (now (gathered .entry))) ⌝ }
 {
-    let sides = numbers::sides_of(small[0], small[1], small[2], small[3], small[4], small[5]);
-    let reader = numbers::reader_of(small[6], small[7], counts[0], body);
+    let sides = sides_in(small);
+    let reader = numbers::reader_of(small[9], small[10], counts[0], body);
     let rcte = rcte_of(small, classes, counts, waiting, gathered);
     let table = Texts {
         marks: *marks,
         cells: *cells,
     };
-    let values = Values {
-        ds: small[11],
-        dr: small[12],
-    };
+    let values = values_in(small);
     Printer {
         sides,
         reader,
@@ -82,7 +122,7 @@ pub fn decoded(
     }
 }
 
-fn small_of(s: Printer) -> [u8; 13]
+fn small_of(s: Printer) -> [u8; 22]
     ensures { λ r. ⌜ r ≡ smallOfPrinter s ⌝ }
 {
     let sides = s.sides;
@@ -99,42 +139,48 @@ fn small_of(s: Printer) -> [u8; 13]
         n.bm,
         n.printersga,
         n.naocrd,
+        n.naolfd,
+        n.naoffd,
+        n.naohtd,
         numbers::phase_number(phase),
         numbers::flag_number(reader.marred),
         numbers::flag_number(control.held),
         numbers::flag_number(action.skipbreak),
         numbers::flag_number(action.skiptext),
-        values.ds,
-        values.dr,
+        values.naocrd.ds,
+        values.naocrd.dr,
+        values.naolfd.ds,
+        values.naolfd.dr,
+        values.naoffd.ds,
+        values.naoffd.dr,
+        values.naohtd.ds,
+        values.naohtd.dr,
     ]
 }
 
 // Stores the option states and the reader's phase alone.
-pub fn put_in_place(sides: Sides, phase: Phase, small: &mut [u8; 13])
+pub fn put_in_place(sides: Sides, phase: Phase, small: &mut [u8; 22])
     ensures { λ r. ⌜ now (small .exit) ≡ smallInPlace (now (small .entry)) sides phase ⌝ }
 {
     let n = numbers::side_numbers(sides);
-    let phase = numbers::phase_number(phase);
-    *small = [
+    let parts = [
         n.echo,
         n.sga,
         n.rcte,
         n.bm,
         n.printersga,
         n.naocrd,
-        phase,
-        small[7],
-        small[8],
-        small[9],
-        small[10],
-        small[11],
-        small[12],
+        n.naolfd,
+        n.naoffd,
+        n.naohtd,
+        numbers::phase_number(phase),
     ];
+    wire::put_bytes(&parts, small);
 }
 
 pub fn store(
     s: Printer,
-    small: &mut [u8; 13],
+    small: &mut [u8; 22],
     classes: &mut [u16; 2],
     counts: &mut [usize; 3],
     body: &mut [u8; BODY_ROOM],
@@ -167,7 +213,7 @@ pub fn store(
 // A call's answer in numbers; its state is stored if it is done, so that a refusal changes nothing.
 pub fn kept(
     a: Answer,
-    small: &mut [u8; 13],
+    small: &mut [u8; 22],
     classes: &mut [u16; 2],
     counts: &mut [usize; 3],
     body: &mut [u8; BODY_ROOM],

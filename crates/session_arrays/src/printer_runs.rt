@@ -26,26 +26,26 @@ use reader::BODY_ROOM;
 use received_macros::ROOM;
 
 // How many bytes at the front are plain.
-fn plain_front(small: &[u8; 13], marks: &[u16; 256], bytes: &[u8]) -> usize
+fn plain_front(small: &[u8; 22], marks: &[u16; 256], bytes: &[u8]) -> usize
     ensures { λ r. ⌜ r ≡ stretchIn (now (small .entry)) (now (marks .entry)) (now (bytes .entry)) ⌝ }
 {
-    let sides = numbers::sides_of(small[0], small[1], small[2], small[3], small[4], small[5]);
-    let phase = numbers::phase_of(small[6]);
-    stretches::data_stretch(sides, phase, small[8] != 0, marks, bytes)
+    let sides = printer_arrays::sides_in(small);
+    let phase = numbers::phase_of(small[9]);
+    stretches::data_stretch(sides, phase, small[11] != 0, marks, bytes)
 }
 
 // A byte by itself is plain.
-pub fn is_plain(small: &[u8; 13], marks: &[u16; 256], b: u8) -> bool
+pub fn is_plain(small: &[u8; 22], marks: &[u16; 256], b: u8) -> bool
     ensures { λ r. ⌜ r ≡ isPlainIn (now (small .entry)) (now (marks .entry)) b ⌝ }
 {
-    let sides = numbers::sides_of(small[0], small[1], small[2], small[3], small[4], small[5]);
-    let phase = numbers::phase_of(small[6]);
-    stretches::is_plain(sides, phase, small[8] != 0, marks, b)
+    let sides = printer_arrays::sides_in(small);
+    let phase = numbers::phase_of(small[9]);
+    stretches::is_plain(sides, phase, small[11] != 0, marks, b)
 }
 
 // A byte from the small parts and the macros alone, where it changes nothing but the option states and the phase.
 fn read_in_place(
-    small: &mut [u8; 13],
+    small: &mut [u8; 22],
     marks: &[u16; 256],
     cells: &[u8; ROOM],
     b: u8,
@@ -56,9 +56,9 @@ fn read_in_place(
     requires { ⌜ RoomFor (inPlaceIn (now small) (now marks) (now cells) b .wire) (now wire) ⌝ }
     ensures { λ r. ⌜ RefinesStoredInPlace (inPlaceIn (now (small .entry)) (now (marks .entry)) (now (cells .entry)) b) (lent small) (lent paper) (lent wire) r ⌝ }
 {
-    let sides = numbers::sides_of(small[0], small[1], small[2], small[3], small[4], small[5]);
-    let phase = numbers::phase_of(small[6]);
-    let read = in_place::read(sides, phase, small[8] != 0, marks, cells, b, paper, wire);
+    let sides = printer_arrays::sides_in(small);
+    let phase = numbers::phase_of(small[9]);
+    let read = in_place::read(sides, phase, small[11] != 0, marks, cells, b, paper, wire);
     if read.handled {
         let sides = read.sides;
         let phase = read.phase;
@@ -73,7 +73,7 @@ fn read_in_place(
 
 // A byte by value, the state stored.
 fn read_by_value(
-    small: &mut [u8; 13],
+    small: &mut [u8; 22],
     classes: &mut [u16; 2],
     counts: &mut [usize; 3],
     body: &mut [u8; BODY_ROOM],
@@ -121,7 +121,7 @@ fn read_by_value(
 
 // A byte that has room.
 fn byte_read(
-    small: &mut [u8; 13],
+    small: &mut [u8; 22],
     classes: &mut [u16; 2],
     counts: &mut [usize; 3],
     body: &mut [u8; BODY_ROOM],
@@ -161,7 +161,7 @@ fn byte_read(
 
 // A run whose first byte has room.
 pub fn read_bytes(
-    small: &mut [u8; 13],
+    small: &mut [u8; 22],
     classes: &mut [u16; 2],
     counts: &mut [usize; 3],
     body: &mut [u8; BODY_ROOM],

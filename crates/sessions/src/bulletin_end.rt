@@ -1,7 +1,7 @@
 // The bulletin end's calls and its questions on a lent `Bulletin`, as the printer end's on a lent `Printer`.
 ghost use mathlib.Core.Path.{_≡_};
 ghost use Rattle.lists.specs.Buffers.{lent};
-ghost use Rattle.disposition.specs.Returns.{reportOf};
+ghost use Rattle.disposition.specs.Handled.{reportsOf};
 ghost use Rattle.bulletin.specs.Calls.{
   networkCall,
   askCall,
@@ -11,7 +11,7 @@ ghost use Rattle.bulletin.specs.Calls.{
   useCall,
   textCall,
   macroStatus,
-  returnsReport,
+  dispositionsReport,
   outputNow,
 };
 ghost use Rattle.bulletin.specs.Refinement.{viewBulletin};
@@ -20,7 +20,7 @@ use crate::BulletinOutcome;
 use bulletin::Bulletin;
 use bulletin::Output;
 use bulletin::calls;
-use disposition::Handling;
+use disposition::Handlings;
 use keys::Key;
 use sent_macros::Status;
 
@@ -52,10 +52,10 @@ pub fn ask(s: &mut Bulletin, option: u8, way: u8, wire: &mut [u8]) -> BulletinOu
     }
 }
 
-pub fn suggest(s: &mut Bulletin, v: u8, wire: &mut [u8]) -> BulletinOutcome
-    ensures { λ r. ⌜ RefinesOnBulletinWire (λ t. suggestCall t v) s (lent wire) r ⌝ }
+pub fn suggest(s: &mut Bulletin, option: u8, v: u8, wire: &mut [u8]) -> BulletinOutcome
+    ensures { λ r. ⌜ RefinesOnBulletinWire (λ t. suggestCall t option v) s (lent wire) r ⌝ }
 {
-    let a = calls::suggest(*s, v, wire);
+    let a = calls::suggest(*s, option, v, wire);
     let state = a.state;
     *s = state;
     BulletinOutcome {
@@ -129,9 +129,9 @@ pub fn macro_status(s: &Bulletin, x: u8) -> Status
     calls::macro_status(*s, x)
 }
 
-// Who handles carriage returns, and how.
-pub fn report(s: &Bulletin) -> Handling
-    ensures { λ r. ⌜ reportOf r ≡ returnsReport (viewBulletin (now (s .entry))) ⌝ }
+// Of each option about output disposition who handles its character, and how.
+pub fn report(s: &Bulletin) -> Handlings
+    ensures { λ r. ⌜ reportsOf r ≡ dispositionsReport (viewBulletin (now (s .entry))) ⌝ }
 {
     calls::report(*s)
 }

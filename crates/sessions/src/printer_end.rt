@@ -3,12 +3,12 @@
 // record as it was, every byte.
 ghost use mathlib.Core.Path.{_≡_};
 ghost use Rattle.lists.specs.Buffers.{lent};
-ghost use Rattle.disposition.specs.Returns.{reportOf};
-ghost use Rattle.printer.specs.Calls.{networkCall, keyCall, askCall, suggestCall, returnsReport};
+ghost use Rattle.disposition.specs.Handled.{reportsOf};
+ghost use Rattle.printer.specs.Calls.{networkCall, keyCall, askCall, suggestCall, dispositionsReport};
 ghost use Rattle.printer.specs.Refinement.{viewPrinter};
 ghost use Rattle.sessions.specs.Refinement.{RefinesOnPrinter};
 use crate::PrinterOutcome;
-use disposition::Handling;
+use disposition::Handlings;
 use keys::Key;
 use printer::Printer;
 use printer::calls;
@@ -61,10 +61,16 @@ pub fn ask(
     }
 }
 
-pub fn suggest(s: &mut Printer, v: u8, paper: &mut [u8], wire: &mut [u8]) -> PrinterOutcome
-    ensures { λ r. ⌜ RefinesOnPrinter (λ t. suggestCall t v) s (lent paper) (lent wire) r ⌝ }
+pub fn suggest(
+    s: &mut Printer,
+    option: u8,
+    v: u8,
+    paper: &mut [u8],
+    wire: &mut [u8],
+) -> PrinterOutcome
+    ensures { λ r. ⌜ RefinesOnPrinter (λ t. suggestCall t option v) s (lent paper) (lent wire) r ⌝ }
 {
-    let a = calls::suggest(*s, v, paper, wire);
+    let a = calls::suggest(*s, option, v, paper, wire);
     let state = a.state;
     *s = state;
     PrinterOutcome {
@@ -75,9 +81,9 @@ pub fn suggest(s: &mut Printer, v: u8, paper: &mut [u8], wire: &mut [u8]) -> Pri
     }
 }
 
-// Who handles carriage returns, and how.
-pub fn report(s: &Printer) -> Handling
-    ensures { λ r. ⌜ reportOf r ≡ returnsReport (viewPrinter (now (s .entry))) ⌝ }
+// Of each option about output disposition who handles its character, and how.
+pub fn report(s: &Printer) -> Handlings
+    ensures { λ r. ⌜ reportsOf r ≡ dispositionsReport (viewPrinter (now (s .entry))) ⌝ }
 {
     calls::report(*s)
 }

@@ -1,9 +1,10 @@
 // A subnegotiation's body as an end takes it up: the checks before its shape, in their order.
 ghost use mathlib.Core.Path.{_≡_};
 ghost use Rattle.reader.specs.Refinement.{viewReader};
-ghost use Rattle.subnegotiation.specs.Checks.{readsRcte, inForce, optionChecked, checked};
+ghost use Rattle.subnegotiation.specs.Checks.{readsRcte, inForce, dispositionChecked, optionChecked, checked};
 use codes::BM;
-use codes::NAOCRD;
+use codes::Disposition;
+use codes::MaybeDisposition;
 use codes::Note;
 use codes::RCTE;
 use negotiation::End;
@@ -14,7 +15,7 @@ use reader::Reader;
 pub enum Checked {
     Noted(Note),
     Rcte,
-    Returns,
+    Disposes(Disposition),
     Macro,
 }
 
@@ -37,6 +38,20 @@ fn in_force(on: bool, c: Checked) -> Checked
     }
 }
 
+// The same of the options about output disposition; any other has no bodies here.
+fn disposition_checked(s: Sides, option: u8) -> Checked
+    ensures { λ r. ⌜ r ≡ dispositionChecked s option ⌝ }
+{
+    let found = codes::disposition_numbered(option);
+    match found {
+        MaybeDisposition::Some(d) => in_force(
+            negotiation::disposition_in_force(s, d),
+            Checked::Disposes(d),
+        ),
+        MaybeDisposition::None => Checked::Noted(Note::OtherOption),
+    }
+}
+
 // The checks behind the first: another option, not in force.
 fn option_checked(end: End, s: Sides, option: u8) -> Checked
     ensures { λ r. ⌜ r ≡ optionChecked end s option ⌝ }
@@ -48,9 +63,8 @@ fn option_checked(end: End, s: Sides, option: u8) -> Checked
             }
             Checked::Noted(Note::OtherOption)
         }
-        NAOCRD => in_force(negotiation::returns_in_force(s), Checked::Returns),
         BM => in_force(negotiation::macros_in_force(end, s), Checked::Macro),
-        _ => Checked::Noted(Note::OtherOption),
+        _ => disposition_checked(s, option),
     }
 }
 

@@ -1,4 +1,4 @@
--- The run of a tape is a session of the printer end in lent tails (printer/UnusedTails), with buffers of 4,096 and 8,192 bytes. Over
+-- The run of a tape is a session of the printer end in lent tails (printer/UnusedTails), with buffers of 4,096 and 16,384 bytes. Over
 -- all fields, its lines are those of the answers to the calls that the items stand for.
 use mathlib.Core.Path.{_≡_}
 use mathlib.Core.List.{List, [], _∷_, _++_, flatMap}

@@ -27,7 +27,7 @@ abbrev pub lentPaper : ℕ
 lentPaper = 4096
 
 abbrev pub lentWire : ℕ
-lentWire = 8192
+lentWire = 16384
 
 abbrev pub programs : Tails
 programs = record { paper = lentPaper; wire = lentWire }

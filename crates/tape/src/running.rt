@@ -29,13 +29,13 @@ use printer::calls;
 // The sizes of the buffers that are lent.
 const PAPER: usize = 4096;
 
-const WIRE: usize = 8192;
+const WIRE: usize = 16384;
 
 // A longer tape is not read.
 const TAPE: usize = 65536;
 
 // The most that a line can be.
-const LINE: usize = 6164;
+const LINE: usize = 10260;
 
 // Whether nothing is left to run.
 pub fn is_over(p: Place) -> bool

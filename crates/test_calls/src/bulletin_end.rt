@@ -125,6 +125,14 @@ fn ask(run: Run, bytes: &[u8]) -> Run {
     }
 }
 
+fn suggest(run: Run, bytes: &[u8]) -> Run {
+    if bytes.len() == 2 {
+        made(run, BulletinCall::Suggest(bytes[0], bytes[1]), bytes, 1)
+    } else {
+        run::wrong_count(run)
+    }
+}
+
 // Class bits, the high byte first.
 fn classes(high: u8, low: u8) -> u16 {
     high as u16 * 256 + low as u16
@@ -155,7 +163,6 @@ fn of_one(run: Run, named: Named, bytes: &[u8]) -> Run {
         return run::wrong_count(run);
     }
     match named {
-        Named::Suggest => made(run, BulletinCall::Suggest(bytes[0]), bytes, 1),
         Named::Use => made(run, BulletinCall::Use(bytes[0]), bytes, 1),
         _ => questions::status(run, bytes[0]),
     }
@@ -167,9 +174,9 @@ pub fn line_run(run: Run, named: Named, kind: Kind, bytes: &[u8]) -> Run {
         Named::Network => network(begun, bytes),
         Named::Text => items(begun, kind, bytes),
         Named::Ask => ask(begun, bytes),
+        Named::Suggest => suggest(begun, bytes),
         Named::Order => order(begun, bytes),
         Named::Define => define(begun, bytes),
-        Named::Suggest => of_one(begun, named, bytes),
         Named::Use => of_one(begun, named, bytes),
         Named::Status => of_one(begun, named, bytes),
         Named::Report => questions::of_bulletin(begun, named, bytes),

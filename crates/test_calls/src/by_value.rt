@@ -7,14 +7,14 @@ pub enum PrinterCall {
     Network(u8),
     Press(Key),
     Ask(u8, u8),
-    Suggest(u8),
+    Suggest(u8, u8),
 }
 
 // The text of a DEFINE goes beside it.
 pub enum BulletinCall {
     Network(u8),
     Ask(u8, u8),
-    Suggest(u8),
+    Suggest(u8, u8),
     Order(u8, u16, u16),
     Define(u8),
     Use(u8),
@@ -26,7 +26,7 @@ pub fn printer(s: Printer, c: PrinterCall, paper: &mut [u8], wire: &mut [u8]) ->
         PrinterCall::Network(b) => printer::calls::network_byte(s, b, paper, wire),
         PrinterCall::Press(k) => printer::calls::press(s, k, paper, wire),
         PrinterCall::Ask(option, way) => printer::calls::ask(s, option, way, paper, wire),
-        PrinterCall::Suggest(v) => printer::calls::suggest(s, v, paper, wire),
+        PrinterCall::Suggest(option, v) => printer::calls::suggest(s, option, v, paper, wire),
     }
 }
 
@@ -40,7 +40,7 @@ pub fn bulletin(
     match c {
         BulletinCall::Network(b) => bulletin::calls::network_byte(s, b, host, wire),
         BulletinCall::Ask(option, way) => bulletin::calls::ask(s, option, way, wire),
-        BulletinCall::Suggest(v) => bulletin::calls::suggest(s, v, wire),
+        BulletinCall::Suggest(option, v) => bulletin::calls::suggest(s, option, v, wire),
         BulletinCall::Order(cmd, breaks, sends) => {
             bulletin::calls::order(s, cmd, breaks, sends, wire)
         }

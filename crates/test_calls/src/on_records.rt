@@ -12,7 +12,7 @@ pub fn printer(s: Printer, c: PrinterCall, paper: &mut [u8], wire: &mut [u8]) ->
         PrinterCall::Network(b) => recorded_printer::network_byte(s, b, paper, wire),
         PrinterCall::Press(k) => recorded_printer::press(s, k, paper, wire),
         PrinterCall::Ask(option, way) => printer::calls::ask(s, option, way, paper, wire),
-        PrinterCall::Suggest(v) => printer::calls::suggest(s, v, paper, wire),
+        PrinterCall::Suggest(option, v) => printer::calls::suggest(s, option, v, paper, wire),
     }
 }
 
@@ -26,7 +26,7 @@ pub fn bulletin(
     match c {
         BulletinCall::Network(b) => recorded_bulletin::network_byte(s, b, host, wire),
         BulletinCall::Ask(option, way) => recorded_bulletin::ask(s, option, way, wire),
-        BulletinCall::Suggest(v) => bulletin::calls::suggest(s, v, wire),
+        BulletinCall::Suggest(option, v) => bulletin::calls::suggest(s, option, v, wire),
         BulletinCall::Order(cmd, breaks, sends) => {
             bulletin::calls::order(s, cmd, breaks, sends, wire)
         }

@@ -133,8 +133,8 @@ fn ask(run: Run, bytes: &[u8]) -> Run {
 }
 
 fn suggest(run: Run, bytes: &[u8]) -> Run {
-    if bytes.len() == 1 {
-        made(run, PrinterCall::Suggest(bytes[0]), 1)
+    if bytes.len() == 2 {
+        made(run, PrinterCall::Suggest(bytes[0], bytes[1]), 1)
     } else {
         run::wrong_count(run)
     }

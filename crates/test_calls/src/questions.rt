@@ -5,6 +5,7 @@ use crate::run::Run;
 use crate::words::Named;
 use bulletin::Output;
 use disposition::Handling;
+use disposition::Handlings;
 use sent_macros::Status;
 
 fn say_handling(h: Handling) {
@@ -18,6 +19,21 @@ fn say_handling(h: Handling) {
             output::say_number(n as usize);
         }
     }
+}
+
+// Of each option, in the order of codes/Dispositions.
+fn say_handlings(h: Handlings) {
+    let returns = h.naocrd;
+    let line_feeds = h.naolfd;
+    let form_feeds = h.naoffd;
+    let tabs = h.naohtd;
+    say_handling(returns);
+    output::say(b" ");
+    say_handling(line_feeds);
+    output::say(b" ");
+    say_handling(form_feeds);
+    output::say(b" ");
+    say_handling(tabs);
     output::say(b"\n");
 }
 
@@ -46,7 +62,7 @@ pub fn of_printer(run: Run, bytes: &[u8]) -> Run {
     let s = run.printer;
     let h = printer::calls::report(s);
     output::say_place(run.line, 1);
-    say_handling(h);
+    say_handlings(h);
     run
 }
 
@@ -60,7 +76,7 @@ pub fn of_bulletin(run: Run, named: Named, bytes: &[u8]) -> Run {
     match named {
         Named::Report => {
             let h = bulletin::calls::report(s);
-            say_handling(h);
+            say_handlings(h);
         }
         _ => {
             let o = bulletin::calls::output(s);

@@ -18,7 +18,7 @@ use Rattle.traces.specs.BulletinContracts.{
 pub on-wire-meets : OnWireMeetsContract
 on-wire-meets s (network b) wire r n g host = absurd (false≢true (sym n))
 on-wire-meets s (ask o y) wire r n g host = g .met host
-on-wire-meets s (suggest v) wire r n g host = g .met host
+on-wire-meets s (suggest o v) wire r n g host = g .met host
 on-wire-meets s (order c breaks sends) wire r n g host = g .met host
 on-wire-meets s (define x t) wire r n g host = g .met host
 on-wire-meets s (useMacro x) wire r n g host = g .met host

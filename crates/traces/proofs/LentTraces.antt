@@ -5,6 +5,8 @@ use Prim.Native.Nat.{ℕ}
 use lib.ListN.{length}
 use Rattle.lists.specs.Buffers.{Lent, lentAs, WroteAtStart}
 use Rattle.lists.proofs.Lengths.{either}
+use Rattle.codes.specs.Dispositions.{dispositionNumbered}
+use Rattle.codes.proofs.Entries.{found-cases}
 use Rattle.codes.specs.Answers.{Guard, guarded}
 use Rattle.codes.specs.declared.Code.{Code}
 use Rattle.codes.specs.declared.Code.the-variants.{Done}
@@ -218,7 +220,7 @@ module _ (s : PT.PrinterState) where
   printer-unwritten (PS.Call.network b p w) = printer-guarded _ _ is-done
   printer-unwritten (PS.Call.key k p w) = printer-guarded _ _ is-done
   printer-unwritten (PS.Call.ask o y p w) = printer-guarded _ _ (asked-cases PrinterUnwritten (s .sides) _ _ (PT.refused s) _ (λ c n. (refl, refl)) (λ q r c e. is-done))
-  printer-unwritten (PS.Call.suggest v p w) = printer-guarded _ _ is-done
+  printer-unwritten (PS.Call.suggest o v p w) = printer-guarded _ _ (found-cases PrinterUnwritten (λ n. (refl, refl)) (λ d. printer-guarded _ _ is-done) (dispositionNumbered o))
 
 module _ (s : BT.BulletinState) where
   bulletin-guarded : (gs : List Guard) (d : BT.CallEffect) → BulletinUnwritten d → BulletinUnwritten (guarded gs (BT.refused s) d)
@@ -228,7 +230,7 @@ module _ (s : BT.BulletinState) where
   unfolding BS.called BCalls.networkCall BCalls.askCall BCalls.suggestCall BCalls.orderCall BCalls.defineCall BCalls.useCall BCalls.textCall
   bulletin-unwritten (BS.Call.network b h w) = bulletin-guarded _ _ is-done
   bulletin-unwritten (BS.Call.ask o y w) = bulletin-guarded _ _ (asked-cases BulletinUnwritten (s .sides) _ _ (BT.refused s) _ (λ c n. (refl, refl)) (λ q r c e. is-done))
-  bulletin-unwritten (BS.Call.suggest v w) = bulletin-guarded _ _ is-done
+  bulletin-unwritten (BS.Call.suggest o v w) = bulletin-guarded _ _ (found-cases BulletinUnwritten (λ n. (refl, refl)) (λ d. bulletin-guarded _ _ is-done) (dispositionNumbered o))
   bulletin-unwritten (BS.Call.order c bc tc w) = bulletin-guarded _ _ is-done
   bulletin-unwritten (BS.Call.define x t w) = bulletin-guarded _ _ is-done
   bulletin-unwritten (BS.Call.useMacro x w) = bulletin-guarded _ _ is-done

@@ -8,11 +8,10 @@ use contract.Monad.{fact}
 use denote.Ref.{now}
 use denote.Triple.Clauses.{AtExit}
 use Rattle.lists.specs.Buffers.{Lent, lentAs}
-use Rattle.bulletin.specs.Session as BS
 use Rattle.session_arrays.specs.declared.Outcome.{Outcome}
 use Rattle.session_arrays.specs.Numbers.{keyOfPair}
 use Rattle.session_arrays.specs.PrinterArrays.{PrinterArrays, arraysOfPrinter}
-use Rattle.session_arrays.specs.BulletinArrays.{BulletinArrays, arraysOfBulletin, RefinesOnBulletinArraysWire}
+use Rattle.session_arrays.specs.BulletinArrays.{BulletinArrays, arraysOfBulletin}
 use Rattle.prambow.proofs.printer_calls.prambow_printer_network_byte_arrays as printer-network-byte
 use Rattle.prambow.proofs.printer_calls.prambow_printer_press_arrays as printer-press
 use Rattle.prambow.proofs.printer_calls.prambow_printer_ask_arrays as printer-ask
@@ -56,7 +55,7 @@ abbrev pub PrinterSuggestEnsures : Type 2
 PrinterSuggestEnsures =
     (w : World) (κs : Lfts 10) (a : ArgsD printer-suggest.signature κs) (r : ResD printer-suggest.signature κs) (e : AtExit printer-suggest.ended κs)
     → printer-suggest.clauses (w .𝓤) (w .H) (w .𝓖 .A) (w .𝓜 .mem) (w .𝓡 .run) κs a .ensures tt r e
-    ≡ fact (w .𝓤) (PrinterMeetsOnArrays (arraysOfPrinter (now (a .0)) (now (a .1 .0)) (now (a .1 .1 .0)) (now (a .1 .1 .1 .0)) (now (a .1 .1 .1 .1 .0)) (now (a .1 .1 .1 .1 .1 .0)) (now (a .1 .1 .1 .1 .1 .1 .0)) (now (a .1 .1 .1 .1 .1 .1 .1 .0))) (printerOnArrays (P.Args.suggest (a .1 .1 .1 .1 .1 .1 .1 .1 .0)) (lentAs (now (a .1 .1 .1 .1 .1 .1 .1 .1 .1 .0)) (now (e .1 .1 .1 .1 .1 .1 .1 .1 .1 .0))) (lentAs (now (a .1 .1 .1 .1 .1 .1 .1 .1 .1 .1 .0)) (now (e .1 .1 .1 .1 .1 .1 .1 .1 .1 .1 .0))) r (arraysOfPrinter (now (e .0)) (now (e .1 .0)) (now (e .1 .1 .0)) (now (e .1 .1 .1 .0)) (now (e .1 .1 .1 .1 .0)) (now (e .1 .1 .1 .1 .1 .0)) (now (e .1 .1 .1 .1 .1 .1 .0)) (now (e .1 .1 .1 .1 .1 .1 .1 .0)))))
+    ≡ fact (w .𝓤) (PrinterMeetsOnArrays (arraysOfPrinter (now (a .0)) (now (a .1 .0)) (now (a .1 .1 .0)) (now (a .1 .1 .1 .0)) (now (a .1 .1 .1 .1 .0)) (now (a .1 .1 .1 .1 .1 .0)) (now (a .1 .1 .1 .1 .1 .1 .0)) (now (a .1 .1 .1 .1 .1 .1 .1 .0))) (printerOnArrays (P.Args.suggest (a .1 .1 .1 .1 .1 .1 .1 .1 .0) (a .1 .1 .1 .1 .1 .1 .1 .1 .1 .0)) (lentAs (now (a .1 .1 .1 .1 .1 .1 .1 .1 .1 .1 .0)) (now (e .1 .1 .1 .1 .1 .1 .1 .1 .1 .1 .0))) (lentAs (now (a .1 .1 .1 .1 .1 .1 .1 .1 .1 .1 .1 .0)) (now (e .1 .1 .1 .1 .1 .1 .1 .1 .1 .1 .1 .0))) r (arraysOfPrinter (now (e .0)) (now (e .1 .0)) (now (e .1 .1 .0)) (now (e .1 .1 .1 .0)) (now (e .1 .1 .1 .1 .0)) (now (e .1 .1 .1 .1 .1 .0)) (now (e .1 .1 .1 .1 .1 .1 .0)) (now (e .1 .1 .1 .1 .1 .1 .1 .0)))))
 
 abbrev pub BulletinNetworkEnsures : Type 2
 BulletinNetworkEnsures =
@@ -74,7 +73,7 @@ abbrev pub BulletinSuggestEnsures : Type 2
 BulletinSuggestEnsures =
     (w : World) (κs : Lfts 7) (a : ArgsD bulletin-suggest.signature κs) (r : ResD bulletin-suggest.signature κs) (e : AtExit bulletin-suggest.ended κs)
     → bulletin-suggest.clauses (w .𝓤) (w .H) (w .𝓖 .A) (w .𝓜 .mem) (w .𝓡 .run) κs a .ensures tt r e
-    ≡ fact (w .𝓤) (BulletinMeetsOnArraysWire (arraysOfBulletin (now (a .0)) (now (a .1 .0)) (now (a .1 .1 .0)) (now (a .1 .1 .1 .0)) (now (a .1 .1 .1 .1 .0)) (now (a .1 .1 .1 .1 .1 .0))) (B.Args.suggest (a .1 .1 .1 .1 .1 .1 .0)) (lentAs (now (a .1 .1 .1 .1 .1 .1 .1 .0)) (now (e .1 .1 .1 .1 .1 .1 .1 .0))) r (arraysOfBulletin (now (e .0)) (now (e .1 .0)) (now (e .1 .1 .0)) (now (e .1 .1 .1 .0)) (now (e .1 .1 .1 .1 .0)) (now (e .1 .1 .1 .1 .1 .0))))
+    ≡ fact (w .𝓤) (BulletinMeetsOnArraysWire (arraysOfBulletin (now (a .0)) (now (a .1 .0)) (now (a .1 .1 .0)) (now (a .1 .1 .1 .0)) (now (a .1 .1 .1 .1 .0)) (now (a .1 .1 .1 .1 .1 .0))) (B.Args.suggest (a .1 .1 .1 .1 .1 .1 .0) (a .1 .1 .1 .1 .1 .1 .1 .0)) (lentAs (now (a .1 .1 .1 .1 .1 .1 .1 .1 .0)) (now (e .1 .1 .1 .1 .1 .1 .1 .1 .0))) r (arraysOfBulletin (now (e .0)) (now (e .1 .0)) (now (e .1 .1 .0)) (now (e .1 .1 .1 .0)) (now (e .1 .1 .1 .1 .0)) (now (e .1 .1 .1 .1 .1 .0))))
 
 abbrev pub BulletinOrderEnsures : Type 2
 BulletinOrderEnsures =

@@ -46,7 +46,7 @@ made args host wire r = record { args = args; host = host; wire = wire; answer =
 abbrev pub lendsData : Args → Bool
 lendsData (network b) = true
 lendsData (ask o y) = false
-lendsData (suggest v) = false
+lendsData (suggest o v) = false
 lendsData (order c breaks sends) = false
 lendsData (define x t) = false
 lendsData (useMacro x) = false
@@ -85,11 +85,11 @@ AskEnsures =
     (κs : Lfts 1) (a : ArgsD ask.signature κs) (r : ResD ask.signature κs) (e : AtExit (endedOf 1 ask-kinds.ps ask-kinds.r) κs) (w : World)
     → ask-reads.ensures κs a tt r e w ≡ fact (w .𝓤) (MeetsContractOnWire (a .0) (Args.ask (a .1 .0) (a .1 .1 .0)) (lentAs (now (a .1 .1 .1 .0)) (now (e .1 .1 .1 .0))) r)
 
--- The same of `suggest`. Ruled out: another value than the one suggested; another buffer than the wire's.
+-- The same of `suggest`. Ruled out: option and value exchanged; another buffer than the wire's.
 abbrev pub SuggestEnsures : Type 2
 SuggestEnsures =
     (κs : Lfts 1) (a : ArgsD suggest.signature κs) (r : ResD suggest.signature κs) (e : AtExit (endedOf 1 suggest-kinds.ps suggest-kinds.r) κs) (w : World)
-    → suggest-reads.ensures κs a tt r e w ≡ fact (w .𝓤) (MeetsContractOnWire (a .0) (Args.suggest (a .1 .0)) (lentAs (now (a .1 .1 .0)) (now (e .1 .1 .0))) r)
+    → suggest-reads.ensures κs a tt r e w ≡ fact (w .𝓤) (MeetsContractOnWire (a .0) (Args.suggest (a .1 .0) (a .1 .1 .0)) (lentAs (now (a .1 .1 .1 .0)) (now (e .1 .1 .1 .0))) r)
 
 -- The same of `order`. Ruled out: break and transmission classes exchanged; another buffer than the wire's.
 abbrev pub OrderEnsures : Type 2

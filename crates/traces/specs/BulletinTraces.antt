@@ -16,7 +16,7 @@ use Rattle.traces.specs.Chains.{Chain, Beside}
 pub data Args : Type 0 where
   network : (byte : ℕ) → Args
   ask : (option way : ℕ) → Args
-  suggest : (value : ℕ) → Args
+  suggest : (option value : ℕ) → Args
   order : (cmd breaks sends : ℕ) → Args
   define : (byte : ℕ) → List ℕ → Args
   useMacro : (byte : ℕ) → Args
@@ -26,7 +26,7 @@ pub data Args : Type 0 where
 abbrev pub withSizes : Args → ℕ → ℕ → Call
 withSizes (network b) h w = Call.network b h w
 withSizes (ask o y) h w = Call.ask o y w
-withSizes (suggest v) h w = Call.suggest v w
+withSizes (suggest o v) h w = Call.suggest o v w
 withSizes (order c breaks sends) h w = Call.order c breaks sends w
 withSizes (define x t) h w = Call.define x t w
 withSizes (useMacro x) h w = Call.useMacro x w

@@ -58,9 +58,9 @@ AskEnsures =
     → ask-reads.ensures κs a tt r e w
     ≡ fact (w .𝓤) (MeetsContract (a .0) (made (Args.ask (a .1 .0) (a .1 .1 .0)) (lentAs (now (a .1 .1 .1 .0)) (now (e .1 .1 .1 .0))) (lentAs (now (a .1 .1 .1 .1 .0)) (now (e .1 .1 .1 .1 .0))) r))
 
--- The same of `suggest`. Ruled out: another value than the one suggested; the two buffers exchanged.
+-- The same of `suggest`. Ruled out: option and value exchanged; the two buffers exchanged.
 abbrev pub SuggestEnsures : Type 2
 SuggestEnsures =
     (κs : Lfts 2) (a : ArgsD suggest.signature κs) (r : ResD suggest.signature κs) (e : AtExit (endedOf 2 suggest-kinds.ps suggest-kinds.r) κs) (w : World)
     → suggest-reads.ensures κs a tt r e w
-    ≡ fact (w .𝓤) (MeetsContract (a .0) (made (Args.suggest (a .1 .0)) (lentAs (now (a .1 .1 .0)) (now (e .1 .1 .0))) (lentAs (now (a .1 .1 .1 .0)) (now (e .1 .1 .1 .0))) r))
+    ≡ fact (w .𝓤) (MeetsContract (a .0) (made (Args.suggest (a .1 .0) (a .1 .1 .0)) (lentAs (now (a .1 .1 .1 .0)) (now (e .1 .1 .1 .0))) (lentAs (now (a .1 .1 .1 .1 .0)) (now (e .1 .1 .1 .1 .0))) r))

@@ -264,12 +264,12 @@ PrinterAskEnsures =
     → printer-ask.clauses (w .𝓤) (w .H) (w .𝓖 .A) (w .𝓜 .mem) (w .𝓡 .run) κs a .ensures tt r e
     ≡ fact (w .𝓤) (PrinterMeetsContract (now (a .0)) (printerLent (P.Args.ask (a .1 .0) (a .1 .1 .0)) (lentAs (now (a .1 .1 .1 .0)) (now (e .1 .1 .1 .0))) (lentAs (now (a .1 .1 .1 .1 .0)) (now (e .1 .1 .1 .1 .0))) r (now (e .0))))
 
--- The same of `suggest`. Ruled out: another value than the one suggested; a record that stays as it was.
+-- The same of `suggest`. Ruled out: option and value exchanged; a record that stays as it was.
 abbrev pub PrinterSuggestEnsures : Type 2
 PrinterSuggestEnsures =
     (w : World) (κs : Lfts 3) (a : ArgsD printer-suggest.signature κs) (r : ResD printer-suggest.signature κs) (e : AtExit printer-suggest.ended κs)
     → printer-suggest.clauses (w .𝓤) (w .H) (w .𝓖 .A) (w .𝓜 .mem) (w .𝓡 .run) κs a .ensures tt r e
-    ≡ fact (w .𝓤) (PrinterMeetsContract (now (a .0)) (printerLent (P.Args.suggest (a .1 .0)) (lentAs (now (a .1 .1 .0)) (now (e .1 .1 .0))) (lentAs (now (a .1 .1 .1 .0)) (now (e .1 .1 .1 .0))) r (now (e .0))))
+    ≡ fact (w .𝓤) (PrinterMeetsContract (now (a .0)) (printerLent (P.Args.suggest (a .1 .0) (a .1 .1 .0)) (lentAs (now (a .1 .1 .1 .0)) (now (e .1 .1 .1 .0))) (lentAs (now (a .1 .1 .1 .1 .0)) (now (e .1 .1 .1 .1 .0))) r (now (e .0))))
 
 -- The same at the bulletin end, first of `network_byte`. Ruled out: a record that stays as it was; the two buffers
 -- exchanged.
@@ -286,12 +286,12 @@ BulletinAskEnsures =
     → bulletin-ask.clauses (w .𝓤) (w .H) (w .𝓖 .A) (w .𝓜 .mem) (w .𝓡 .run) κs a .ensures tt r e
     ≡ fact (w .𝓤) (BulletinMeetsContractOnWire (now (a .0)) (B.Args.ask (a .1 .0) (a .1 .1 .0)) (lentAs (now (a .1 .1 .1 .0)) (now (e .1 .1 .1 .0))) r (now (e .0)))
 
--- The same of `suggest`. Ruled out: another value than the one suggested; a record that stays as it was.
+-- The same of `suggest`. Ruled out: option and value exchanged; a record that stays as it was.
 abbrev pub BulletinSuggestEnsures : Type 2
 BulletinSuggestEnsures =
     (w : World) (κs : Lfts 2) (a : ArgsD bulletin-suggest.signature κs) (r : ResD bulletin-suggest.signature κs) (e : AtExit bulletin-suggest.ended κs)
     → bulletin-suggest.clauses (w .𝓤) (w .H) (w .𝓖 .A) (w .𝓜 .mem) (w .𝓡 .run) κs a .ensures tt r e
-    ≡ fact (w .𝓤) (BulletinMeetsContractOnWire (now (a .0)) (B.Args.suggest (a .1 .0)) (lentAs (now (a .1 .1 .0)) (now (e .1 .1 .0))) r (now (e .0)))
+    ≡ fact (w .𝓤) (BulletinMeetsContractOnWire (now (a .0)) (B.Args.suggest (a .1 .0) (a .1 .1 .0)) (lentAs (now (a .1 .1 .1 .0)) (now (e .1 .1 .1 .0))) r (now (e .0)))
 
 -- The same of `order`. Ruled out: break and transmission classes exchanged; a record that stays as it was.
 abbrev pub BulletinOrderEnsures : Type 2

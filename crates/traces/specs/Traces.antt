@@ -18,14 +18,14 @@ pub data Args : Type 0 where
   network : (byte : ℕ) → Args
   key : Key → Args
   ask : (option way : ℕ) → Args
-  suggest : (value : ℕ) → Args
+  suggest : (option value : ℕ) → Args
 
 -- the rules' call: its sizes are those of the lent buffers
 abbrev pub withSizes : Args → ℕ → ℕ → Call
 withSizes (network b) p w = Call.network b p w
 withSizes (key k) p w = Call.key k p w
 withSizes (ask o y) p w = Call.ask o y p w
-withSizes (suggest v) p w = Call.suggest v p w
+withSizes (suggest o v) p w = Call.suggest o v p w
 
 -- a call that the program made: the lent buffers, and its answer
 pub record AnsweredCall : Type 0 where

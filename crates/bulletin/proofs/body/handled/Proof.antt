@@ -16,17 +16,17 @@ enum-told c = search needs
 step-requires-2 : tie.Need-step-requires-2
 step-requires-2 c κs = search needs
 
-enum-told-2 : tie.Need-enum-told-2
-enum-told-2 c = search needs
+enum-known-checked-2 : tie.Need-enum-known-checked-2
+enum-known-checked-2 c = search needs
 
 value-read-requires : tie.Need-value-read-requires
 value-read-requires c κs = search needs
 
-enum-told-3 : tie.Need-enum-told-3
-enum-told-3 c = search needs
+enum-told-2 : tie.Need-enum-told-2
+enum-told-2 c = search needs
 
 reply-read-requires : tie.Need-reply-read-requires
-reply-read-requires c κs = let told = c .before in rw (told .enum-told3 .given .1) at (told .before .before .before .before .pre)
+reply-read-requires c κs = rw (c .before .enum-told2 .given .1) at (c .before .before .before .before .before .pre)
 
 returns : tie.Need-returns
 returns c = rw (c .before .before .checked .given .1, c .step .ensures) (met-unwritten _ met-same .met _)
@@ -35,13 +35,13 @@ returns-2 : tie.Need-returns-2
 returns-2 c = rw (c .before .enum-told .given .1, c .step2 .ensures) (met-unwritten OtherOption met-same .met _)
 
 returns-3 : tie.Need-returns-3
-returns-3 c = rw (c .before .enum-told2 .given .1) (c .value-read .ensures .met _)
+returns-3 c = rw (c .before .before .checked2 .given .1) (c .value-read .ensures .met _)
 
 same-length : tie.Need-same-length
 same-length c = search needs
 
 returns-4 : tie.Need-returns-4
-returns-4 c = let sent = c .before .before in rw (sent .before .before .enum-told3 .given .1) (sent .reply-read .ensures)
+returns-4 c = rw (c .before .before .before .before .enum-told2 .given .1) (c .before .before .reply-read .ensures)
 
 pub handled-spec : {M : Type 1} → statement M
 handled-spec =
@@ -51,9 +51,9 @@ handled-spec =
     step-requires
     enum-told
     step-requires-2
-    enum-told-2
+    enum-known-checked-2
     value-read-requires
-    enum-told-3
+    enum-told-2
     reply-read-requires
     returns
     returns-2

@@ -20,6 +20,9 @@ step-requires c κs = search needs
 returns : tie.Need-returns
 returns c = rw (sym (c .before .before .before .value-body .ensures) ∙ c .before .enum-told .given .1, c .step .ensures) (met-unwritten Unreadable met-same)
 
+values-of-requires : tie.Need-values-of-requires
+values-of-requires c κs = search needs
+
 with-dr-requires : tie.Need-with-dr-requires
 with-dr-requires c κs = search needs
 
@@ -30,10 +33,7 @@ step-requires-2 : tie.Need-step-requires-2
 step-requires-2 c κs = search needs
 
 returns-2 : tie.Need-returns-2
-returns-2 c =
-    let dr = c .before .before in
-    let read = dr .before .before .before in
-    rw (sym (read .before .before .value-body .ensures) ∙ read .value .given .1, c .step2 .ensures, ← dr .with-dr .ensures)
+returns-2 c = rw (sym (c .before .before .before .before .before .before .before .before .value-body .ensures) ∙ c .before .before .before .before .before .before .value .given .1, c .step2 .ensures, ← c .before .before .before .values-of .ensures, ← c .before .before .with-dr .ensures)
     (met-unwritten Clear (c .before .with-values .ensures))
 
 pub value-read-spec : {M : Type 1} → statement M
@@ -45,6 +45,7 @@ value-read-spec =
     enum-told
     step-requires
     returns
+    values-of-requires
     with-dr-requires
     with-values-requires
     step-requires-2

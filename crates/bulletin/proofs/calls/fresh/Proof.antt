@@ -11,12 +11,17 @@ idle-requires c κs = search needs
 none-requires : tie.Need-none-requires
 none-requires c κs = search needs
 
-unspoken-requires : tie.Need-unspoken-requires
-unspoken-requires c κs = search needs
+all-unspoken-requires : tie.Need-all-unspoken-requires
+all-unspoken-requires c κs = search needs
+
+no-waits-requires : tie.Need-no-waits-requires
+no-waits-requires c κs = search needs
 
 returns : tie.Need-returns
-returns c = rw (c .before .before .before .all-no .ensures, c .before .before .idle .ensures, c .before .none .ensures, c .unspoken .ensures)
+returns c =
+    let made = c .before .before in
+    rw (made .before .before .all-no .ensures, made .before .idle .ensures, made .none .ensures, c .before .all-unspoken .ensures, c .no-waits .ensures)
 
 pub fresh-spec : {M : Type 1} → statement M
 fresh-spec =
-    tie.close (tie.spec all-no-requires idle-requires none-requires unspoken-requires returns)
+    tie.close (tie.spec all-no-requires idle-requires none-requires all-unspoken-requires no-waits-requires returns)

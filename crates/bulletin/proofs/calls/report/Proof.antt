@@ -1,14 +1,14 @@
 use mathlib.Core.Path.{ap}
-use Rattle.disposition.specs.Returns.{reportOf}
+use Rattle.disposition.specs.Handled.{reportsOf}
 use borrow.Author.Needs.{needs}
 use Rattle.bulletin.proofs.calls.report.Statement.{statement}
 use Rattle.bulletin.proofs.calls.report.Tie as tie
 
-handling-now-requires : tie.Need-handling-now-requires
-handling-now-requires c κs = search needs
+handlings-now-requires : tie.Need-handlings-now-requires
+handlings-now-requires c κs = search needs
 
 returns : tie.Need-returns
-returns c = ap reportOf (c .handling-now .ensures)
+returns c = ap reportsOf (c .handlings-now .ensures)
 
 pub report-spec : {M : Type 1} → statement M
-report-spec = tie.close (tie.spec handling-now-requires returns)
+report-spec = tie.close (tie.spec handlings-now-requires returns)

@@ -7,7 +7,7 @@ use Rattle.codes.proofs.Guards.{none-holds, test-passes}
 use Rattle.bulletin.specs.Refinement.{viewBulletin}
 use Rattle.bulletin.specs.Calls.{itemSent, textGuards, textCall}
 use Rattle.bulletin.proofs.Limits.{item-fits}
-use Rattle.bulletin.proofs.Meeting.{met-step, met-awaiting}
+use Rattle.bulletin.proofs.Meeting.{met-step, met-waits}
 use Rattle.bulletin.proofs.Answering.{stopped-on-wire, passed-on-wire, done-on-wire}
 use Rattle.bulletin.proofs.Rooms.{room-on-wire}
 use borrow.Author.Needs.{needs}
@@ -63,7 +63,7 @@ returns-2 c =
     let asked = go .before .before in
     rw (c .done .ensures .0, ← c .before .before .waits-after .ensures)
     (passed-on-wire (guards (asked .before .before)) _ (asked .text-refusal .ensures) (go .before .is-done .ensures) (refl, (refl, (refl, tt))) (go .if1 .left)
-    (done-on-wire (c .before .step .ensures) (met-step Clear (met-awaiting _) (sent .put-item .ensures)) (c .done .ensures .1)))
+    (done-on-wire (c .before .step .ensures) (met-step Clear (met-waits _) (sent .put-item .ensures)) (c .done .ensures .1)))
 
 pub text-item-spec : {M : Type 1} → statement M
 text-item-spec =

@@ -22,12 +22,15 @@ returns-2 c =
     let lent = c .before .before .before in
     rw (sym (lent .before .no-wire .ensures) ∙ lent .if1 .left, ap not (sym (c .before .macros-in-force .ensures)) ∙ c .if2 .taken)
 
+is-waiting-requires : tie.Need-is-waiting-requires
+is-waiting-requires c κs = search needs
+
 returns-3 : tie.Need-returns-3
 unfolding refusalOf
 returns-3 c =
-    let on = c .before in
+    let on = c .before .before .before in
     let lent = on .before .before .before in
-    rw (sym (lent .before .no-wire .ensures) ∙ lent .if1 .left, ap not (sym (on .before .macros-in-force .ensures)) ∙ on .if2 .left, c .if3 .taken)
+    rw (sym (lent .before .no-wire .ensures) ∙ lent .if1 .left, ap not (sym (on .before .macros-in-force .ensures)) ∙ on .if2 .left, sym (c .before .is-waiting .ensures) ∙ c .if3 .taken)
 
 is-accepted-requires : tie.Need-is-accepted-requires
 is-accepted-requires c κs = search needs
@@ -36,19 +39,19 @@ returns-4 : tie.Need-returns-4
 unfolding refusalOf
 returns-4 c =
     let ready = c .before .before .before .before in
-    let on = ready .before in
+    let on = ready .before .before .before in
     let lent = on .before .before .before in
     let a = lent .before .before .args in
-    rw (sym (lent .before .no-wire .ensures) ∙ lent .if1 .left, ap not (sym (on .before .macros-in-force .ensures)) ∙ on .if2 .left, ready .if3 .left, accepted-bare (a .t1 .table) (a .x) ∙ sym (c .before .is-accepted .ensures) ∙ c .if4 .taken)
+    rw (sym (lent .before .no-wire .ensures) ∙ lent .if1 .left, ap not (sym (on .before .macros-in-force .ensures)) ∙ on .if2 .left, sym (ready .before .is-waiting .ensures) ∙ ready .if3 .left, accepted-bare (a .t1 .table) (a .x) ∙ sym (c .before .is-accepted .ensures) ∙ c .if4 .taken)
 
 returns-5 : tie.Need-returns-5
 unfolding refusalOf
 returns-5 c =
     let ready = c .before .before .before .before in
-    let on = ready .before in
+    let on = ready .before .before .before in
     let lent = on .before .before .before in
     let a = lent .before .before .args in
-    rw (sym (lent .before .no-wire .ensures) ∙ lent .if1 .left, ap not (sym (on .before .macros-in-force .ensures)) ∙ on .if2 .left, ready .if3 .left, accepted-bare (a .t1 .table) (a .x) ∙ sym (c .before .is-accepted .ensures) ∙ c .if4 .left)
+    rw (sym (lent .before .no-wire .ensures) ∙ lent .if1 .left, ap not (sym (on .before .macros-in-force .ensures)) ∙ on .if2 .left, sym (ready .before .is-waiting .ensures) ∙ ready .if3 .left, accepted-bare (a .t1 .table) (a .x) ∙ sym (c .before .is-accepted .ensures) ∙ c .if4 .left)
 
 pub use-refusal-spec : {M : Type 1} → statement M
 use-refusal-spec =
@@ -58,6 +61,7 @@ use-refusal-spec =
     returns
     macros-in-force-requires
     returns-2
+    is-waiting-requires
     returns-3
     is-accepted-requires
     returns-4

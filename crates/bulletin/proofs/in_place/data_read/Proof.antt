@@ -7,6 +7,9 @@ use Rattle.bulletin.proofs.in_place.data_read.Tie as tie
 slice-write-host : tie.Need-slice-write-host
 slice-write-host c = search needs
 
+no-waits-requires : tie.Need-no-waits-requires
+no-waits-requires c κs = search needs
+
 same-length : tie.Need-same-length
 same-length c = search needs
 
@@ -16,10 +19,10 @@ returns c = record {
     handled = refl;
     sides = refl;
     phase = refl;
-    awaiting = refl;
-    wrote = record { paper = wrote-start _ _ (c .pre); wire = wrote-none wire };
+    waits = c .no-waits .ensures;
+    wrote = record { paper = wrote-start _ _ (c .before .before .pre); wire = wrote-none wire };
   };
 }
 
 pub data-read-spec : {M : Type 1} → statement M
-data-read-spec = tie.close (tie.spec slice-write-host same-length returns)
+data-read-spec = tie.close (tie.spec slice-write-host no-waits-requires same-length returns)

@@ -4,9 +4,9 @@ use native.Mathlib.Omega.{arith}
 use lib.ListN.{length-take}
 use Rattle.lists.proofs.ReadOff.{read-off, within-after}
 use Rattle.keys.specs.Keys.{isCommand}
-use Rattle.bulletin.specs.State.{definitionsNow, handlingNow}
+use Rattle.bulletin.specs.State.{definitionsNow, handlingsNow}
 use Rattle.bulletin.specs.Refinement.{viewBulletin}
-use Rattle.bulletin.proofs.LimitsBytes.{data-long}
+use Rattle.disposition.proofs.ItemLengths.{item-data-fits}
 use Rattle.bulletin.proofs.ItemBytes.{command-bytes, character-bytes}
 use borrow.Author.Needs.{needs}
 use Rattle.bulletin.proofs.items.put_item.Statement.{statement}
@@ -24,7 +24,7 @@ is-command-requires c κs = search needs
 put-key-requires : tie.Need-put-key-requires
 put-key-requires c κs =
     let start = c .before .before .before .before in
-    rw (command-bytes (definitionsNow (viewBulletin (start .args .s))) (handlingNow (viewBulletin (start .args .s))) (start .args .k) (commanded (c .before))) at (start .pre)
+    rw (command-bytes (definitionsNow (viewBulletin (start .args .s))) (handlingsNow (viewBulletin (start .args .s))) (start .args .k) (commanded (c .before))) at (start .pre)
 
 same-length : tie.Need-same-length
 same-length c = search needs
@@ -33,11 +33,11 @@ returns : tie.Need-returns
 returns c =
     let sent = c .before .before in
     let start = sent .before .before .before .before .before in
-    rw (command-bytes (definitionsNow (viewBulletin (start .args .s))) (handlingNow (viewBulletin (start .args .s))) (start .args .k) (commanded (sent .before .before)))
+    rw (command-bytes (definitionsNow (viewBulletin (start .args .s))) (handlingsNow (viewBulletin (start .args .s))) (start .args .k) (commanded (sent .before .before)))
     (sent .put-key .ensures)
 
-handling-now-requires : tie.Need-handling-now-requires
-handling-now-requires c κs = search needs
+handlings-now-requires : tie.Need-handlings-now-requires
+handlings-now-requires c κs = search needs
 
 table-now-requires : tie.Need-table-now-requires
 table-now-requires c κs = search needs
@@ -46,7 +46,7 @@ slice-aggregate-put-item : tie.Need-slice-aggregate-put-item
 slice-aggregate-put-item c = search needs
 
 put-item-requires : tie.Need-put-item-requires
-put-item-requires c κs = let how = c .before .before in data-long (how .handling-now .result) (how .before .before .before .before .args .k)
+put-item-requires c κs = let how = c .before .before in item-data-fits (how .handlings-now .result) (how .before .before .before .before .args .k)
 
 array-share-prefix-data : tie.Need-array-share-prefix-data
 array-share-prefix-data c = within-after (c .before .put-item .ensures)
@@ -60,8 +60,8 @@ put-data-requires c κs =
     let table = item .before .before in
     let how = table .before in
     let start = how .before .before .before .before in
-    rw (read-off (item .put-item .ensures), how .handling-now .ensures, table .table-now .ensures)
-    (rw (character-bytes (definitionsNow (viewBulletin (start .args .s))) (handlingNow (viewBulletin (start .args .s))) (start .args .k) (typed (how .before))) at (start .pre))
+    rw (read-off (item .put-item .ensures), how .handlings-now .ensures, table .table-now .ensures)
+    (rw (character-bytes (definitionsNow (viewBulletin (start .args .s))) (handlingsNow (viewBulletin (start .args .s))) (start .args .k) (typed (how .before))) at (start .pre))
 
 same-length-2 : tie.Need-same-length-2
 same-length-2 c = search needs
@@ -73,8 +73,8 @@ returns-2 c =
     let table = item .before .before in
     let how = table .before in
     let start = how .before .before .before .before in
-    rw (character-bytes (definitionsNow (viewBulletin (start .args .s))) (handlingNow (viewBulletin (start .args .s))) (start .args .k) (typed (how .before)))
-    (rw (read-off (item .put-item .ensures), how .handling-now .ensures, table .table-now .ensures) at (sent .put-data .ensures))
+    rw (character-bytes (definitionsNow (viewBulletin (start .args .s))) (handlingsNow (viewBulletin (start .args .s))) (start .args .k) (typed (how .before)))
+    (rw (read-off (item .put-item .ensures), how .handlings-now .ensures, table .table-now .ensures) at (sent .put-data .ensures))
 
 pub put-item-spec : {M : Type 1} → statement M
 put-item-spec =
@@ -84,7 +84,7 @@ put-item-spec =
     put-key-requires
     same-length
     returns
-    handling-now-requires
+    handlings-now-requires
     table-now-requires
     slice-aggregate-put-item
     put-item-requires

@@ -1,4 +1,3 @@
--- Side by side.
 use borrow.Author.Needs.{needs}
 use Rattle.negotiation.proofs.carried.moved.Statement.{statement}
 use Rattle.negotiation.proofs.carried.moved.Tie as tie
@@ -33,14 +32,17 @@ enum-told-5 c = search needs
 sides-of-requires-5 : tie.Need-sides-of-requires-5
 sides-of-requires-5 c κs = search needs
 
-enum-told-6 : tie.Need-enum-told-6
-enum-told-6 c = search needs
+enum-known-side : tie.Need-enum-known-side
+enum-known-side c = search needs
+
+with-disposition-state-requires : tie.Need-with-disposition-state-requires
+with-disposition-state-requires c κs = search needs
 
 sides-of-requires-6 : tie.Need-sides-of-requires-6
 sides-of-requires-6 c κs = search needs
 
-enum-told-7 : tie.Need-enum-told-7
-enum-told-7 c = search needs
+enum-told-6 : tie.Need-enum-told-6
+enum-told-6 c = search needs
 
 returns : tie.Need-returns
 returns c = rw (c .before .enum-told .given .1) (c .sides-of .ensures)
@@ -58,10 +60,10 @@ returns-5 : tie.Need-returns-5
 returns-5 c = rw (c .before .enum-told5 .given .1) (c .sides-of5 .ensures)
 
 returns-6 : tie.Need-returns-6
-returns-6 c = rw (c .before .enum-told6 .given .1) (c .sides-of6 .ensures)
+returns-6 c = rw (c .before .before .before .side .given .1, ← c .before .with-disposition-state .ensures) (c .sides-of6 .ensures)
 
 returns-7 : tie.Need-returns-7
-returns-7 c = search needs
+returns-7 c = rw (c .enum-told6 .given .1)
 
 pub moved-spec : {M : Type 1} → statement M
 moved-spec =
@@ -77,9 +79,10 @@ moved-spec =
     sides-of-requires-4
     enum-told-5
     sides-of-requires-5
-    enum-told-6
+    enum-known-side
+    with-disposition-state-requires
     sides-of-requires-6
-    enum-told-7
+    enum-told-6
     returns
     returns-2
     returns-3

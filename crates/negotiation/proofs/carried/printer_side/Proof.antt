@@ -36,15 +36,13 @@ returns-6 : tie.Need-returns-6
 unfolding printerSide
 returns-6 c = rw (c .before .enum-told2 .given .1, c .match3 .keys1)
 
+disposing-side-requires : tie.Need-disposing-side-requires
+disposing-side-requires c κs = search needs
+
 returns-7 : tie.Need-returns-7
 unfolding printerSide
-returns-7 c = rw (c .before .enum-told2 .given .1, c .match3 .keys2)
-
-returns-8 : tie.Need-returns-8
-unfolding printerSide
-returns-8 c =
-    let no = c .match3 .rest in
-    rw (c .before .enum-told2 .given .1, ne-eqb _ _ (no .0 .1), ne-eqb _ _ (no .1))
+returns-7 c =
+    rw (c .before .before .enum-told2 .given .1, ne-eqb _ _ (c .before .match3 .rest .1)) (c .disposing-side .ensures)
 
 pub printer-side-spec : {M : Type 1} → statement M
 printer-side-spec =
@@ -52,11 +50,11 @@ printer-side-spec =
     (tie.spec
     enum-told
     enum-told-2
+    disposing-side-requires
     returns
     returns-2
     returns-3
     returns-4
     returns-5
     returns-6
-    returns-7
-    returns-8)
+    returns-7)

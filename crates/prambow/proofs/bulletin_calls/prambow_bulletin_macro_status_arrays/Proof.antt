@@ -11,26 +11,8 @@ use Rattle.prambow.proofs.bulletin_calls.prambow_bulletin_macro_status_
 }
 use Rattle.prambow.proofs.bulletin_calls.prambow_bulletin_macro_status_arrays.Tie as tie
 
-element-copy-out-sides-of : tie.Need-element-copy-out-sides-of
-element-copy-out-sides-of c = search needs
-
-element-copy-out-sides-of-2 : tie.Need-element-copy-out-sides-of-2
-element-copy-out-sides-of-2 c = search needs
-
-element-copy-out-sides-of-3 : tie.Need-element-copy-out-sides-of-3
-element-copy-out-sides-of-3 c = search needs
-
-element-copy-out-sides-of-4 : tie.Need-element-copy-out-sides-of-4
-element-copy-out-sides-of-4 c = search needs
-
-element-copy-out-sides-of-5 : tie.Need-element-copy-out-sides-of-5
-element-copy-out-sides-of-5 c = search needs
-
-element-copy-out-sides-of-6 : tie.Need-element-copy-out-sides-of-6
-element-copy-out-sides-of-6 c = search needs
-
-sides-of-requires : tie.Need-sides-of-requires
-sides-of-requires c κs = search needs
+sides-in-requires : tie.Need-sides-in-requires
+sides-in-requires c κs = search needs
 
 macros-in-force-requires : tie.Need-macros-in-force-requires
 macros-in-force-requires c κs = search needs
@@ -45,33 +27,27 @@ returns : tie.Need-returns
 returns c =
     let on = c .before .before in
     let sides = on .before .before in
-    let x = sides .before .before .before .before .before .before .before .args .x in
+    let x = sides .before .args .x in
     record {
       met = λ a e f.
-          rw (← status-on a x (ap (λ (s : List ℕ). macrosInForce End.Bulletin (sidesIn s)) e ∙ ap (macrosInForce End.Bulletin) (sym (sides .sides-of .ensures)) ∙ sym (on .before .macros-in-force .ensures) ∙ on .if1 .taken), f, ← c .before .status-at .ensures)
+          rw (← status-on a x (ap (λ (s : List ℕ). macrosInForce End.Bulletin (sidesIn s)) e ∙ ap (macrosInForce End.Bulletin) (sym (sides .sides-in .ensures)) ∙ sym (on .before .macros-in-force .ensures) ∙ on .if1 .taken), f, ← c .before .status-at .ensures)
           (c .status-number .ensures);
     }
 
 returns-2 : tie.Need-returns-2
 returns-2 c =
     let sides = c .before .before in
-    let x = sides .before .before .before .before .before .before .before .args .x in
+    let x = sides .before .args .x in
     record {
       met = λ a e f.
-          status-off a x (ap (λ (s : List ℕ). macrosInForce End.Bulletin (sidesIn s)) e ∙ ap (macrosInForce End.Bulletin) (sym (sides .sides-of .ensures)) ∙ sym (c .before .macros-in-force .ensures) ∙ c .if1 .left);
+          status-off a x (ap (λ (s : List ℕ). macrosInForce End.Bulletin (sidesIn s)) e ∙ ap (macrosInForce End.Bulletin) (sym (sides .sides-in .ensures)) ∙ sym (c .before .macros-in-force .ensures) ∙ c .if1 .left);
     }
 
 pub prambow-bulletin-macro-status-arrays-spec : {M : Type 1} → statement M
 prambow-bulletin-macro-status-arrays-spec =
     tie.close
     (tie.spec
-    element-copy-out-sides-of
-    element-copy-out-sides-of-2
-    element-copy-out-sides-of-3
-    element-copy-out-sides-of-4
-    element-copy-out-sides-of-5
-    element-copy-out-sides-of-6
-    sides-of-requires
+    sides-in-requires
     macros-in-force-requires
     status-at-requires
     status-number-requires

@@ -1,6 +1,7 @@
-use mathlib.Core.Path.{_∙_}
-use lib.ListN.{getD}
-use Rattle.session_arrays.specs.Numbers.{flagOf}
+use mathlib.Core.Path.{ap, _∙_}
+use Rattle.disposition.specs.ByOption.{isWaiting}
+use Rattle.session_arrays.specs.Numbers.{flagNumber}
+use Rattle.session_arrays.specs.BulletinArrays.{waitsIn}
 use Rattle.session_arrays.proofs.Decoding.{flag-output}
 use borrow.Author.Needs.{needs}
 use Rattle.prambow.proofs.bulletin_calls.prambow_bulletin_output_arrays.Statement.{
@@ -8,16 +9,20 @@ use Rattle.prambow.proofs.bulletin_calls.prambow_bulletin_output_arrays
 }
 use Rattle.prambow.proofs.bulletin_calls.prambow_bulletin_output_arrays.Tie as tie
 
-element-copy-out-flag-number : tie.Need-element-copy-out-flag-number
-element-copy-out-flag-number c = search needs
+waits-in-requires : tie.Need-waits-in-requires
+waits-in-requires c κs = search needs
+
+is-waiting-requires : tie.Need-is-waiting-requires
+is-waiting-requires c κs = search needs
 
 flag-number-requires : tie.Need-flag-number-requires
 flag-number-requires c κs = search needs
 
 returns : tie.Need-returns
 returns c =
-    record { met = λ a e. rw e (c .flag-number .ensures ∙ flag-output (flagOf (getD (c .before .before .args .small .now) 8 0))) }
+    let told = c .flag-number .ensures ∙ ap flagNumber (c .before .is-waiting .ensures ∙ ap isWaiting (c .before .before .waits-in .ensures)) in
+    record { met = λ a e. rw e (told ∙ flag-output (isWaiting (waitsIn (c .before .before .before .args .small .now)))) }
 
 pub prambow-bulletin-output-arrays-spec : {M : Type 1} → statement M
 prambow-bulletin-output-arrays-spec =
-    tie.close (tie.spec element-copy-out-flag-number flag-number-requires returns)
+    tie.close (tie.spec waits-in-requires is-waiting-requires flag-number-requires returns)

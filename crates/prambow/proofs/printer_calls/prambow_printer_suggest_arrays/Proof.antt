@@ -26,7 +26,7 @@ returns c =
     let call = c .before .before .before .before .before .before .before .before .before .before .before .before .before in
     let found = call .before .before .before in
     let a = found .before .before .before .before .before .before .before .before .before .before .before .args in
-    on-arrays (λ t. suggestCall t (a .v)) (found .decoded .ensures) (call .suggest .ensures) (c .kept .ensures)
+    on-arrays (λ t. suggestCall t (a .option) (a .v)) (found .decoded .ensures) (call .suggest .ensures) (c .kept .ensures)
 
 pub prambow-printer-suggest-arrays-spec : {M : Type 1} → statement M
 prambow-printer-suggest-arrays-spec =

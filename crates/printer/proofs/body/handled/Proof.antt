@@ -16,17 +16,17 @@ enum-told c = search needs
 rcte-read-requires : tie.Need-rcte-read-requires
 rcte-read-requires c κs = rw (c .before .before .enum-told .given .1) at (c .before .before .before .before .before .before .before .pre)
 
-enum-told-2 : tie.Need-enum-told-2
-enum-told-2 c = search needs
+enum-known-checked-2 : tie.Need-enum-known-checked-2
+enum-known-checked-2 c = search needs
 
 value-read-requires : tie.Need-value-read-requires
 value-read-requires c κs = search needs
 
-enum-told-3 : tie.Need-enum-told-3
-enum-told-3 c = search needs
+enum-told-2 : tie.Need-enum-told-2
+enum-told-2 c = search needs
 
 macro-read-requires : tie.Need-macro-read-requires
-macro-read-requires c κs = rw (c .before .before .enum-told3 .given .1) at (c .before .before .before .before .before .before .before .pre)
+macro-read-requires c κs = rw (c .before .before .enum-told2 .given .1) at (c .before .before .before .before .before .before .before .pre)
 
 returns : tie.Need-returns
 returns c = rw (c .before .before .checked .given .1, c .note-alone .ensures) (met-unwritten _ _ _ _ refl (λ k. k) .met _ _)
@@ -41,7 +41,7 @@ returns-2 : tie.Need-returns-2
 returns-2 c = rw (c .before .before .before .before .before .before .before .enum-told .given .1) (c .before .before .before .before .rcte-read .ensures)
 
 returns-3 : tie.Need-returns-3
-returns-3 c = rw (c .before .enum-told2 .given .1) (c .value-read .ensures .met _ _)
+returns-3 c = rw (c .before .before .checked2 .given .1) (c .value-read .ensures .met _ _)
 
 same-length-3 : tie.Need-same-length-3
 same-length-3 c = search needs
@@ -50,7 +50,7 @@ same-length-4 : tie.Need-same-length-4
 same-length-4 c = search needs
 
 returns-4 : tie.Need-returns-4
-returns-4 c = rw (c .before .before .before .before .before .before .before .enum-told3 .given .1) (c .before .before .before .before .macro-read .ensures)
+returns-4 c = rw (c .before .before .before .before .before .before .before .enum-told2 .given .1) (c .before .before .before .before .macro-read .ensures)
 
 pub handled-spec : {M : Type 1} → statement M
 handled-spec =
@@ -60,9 +60,9 @@ handled-spec =
     note-alone-requires
     enum-told
     rcte-read-requires
-    enum-told-2
+    enum-known-checked-2
     value-read-requires
-    enum-told-3
+    enum-told-2
     macro-read-requires
     returns
     same-length

@@ -14,12 +14,12 @@ empty-requires c κs = search needs
 started-requires : tie.Need-started-requires
 started-requires c κs = search needs
 
-unspoken-requires : tie.Need-unspoken-requires
-unspoken-requires c κs = search needs
+all-unspoken-requires : tie.Need-all-unspoken-requires
+all-unspoken-requires c κs = search needs
 
 returns : tie.Need-returns
 returns c =
-    rw (c .before .before .before .before .all-no .ensures, c .before .before .before .idle .ensures, c .before .before .empty .ensures, c .before .started .ensures, c .unspoken .ensures)
+    rw (c .before .before .before .before .all-no .ensures, c .before .before .before .idle .ensures, c .before .before .empty .ensures, c .before .started .ensures, c .all-unspoken .ensures)
 
 pub fresh-spec : {M : Type 1} → statement M
-fresh-spec = tie.close (tie.spec all-no-requires idle-requires empty-requires started-requires unspoken-requires returns)
+fresh-spec = tie.close (tie.spec all-no-requires idle-requires empty-requires started-requires all-unspoken-requires returns)

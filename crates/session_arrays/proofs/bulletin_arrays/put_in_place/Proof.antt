@@ -8,8 +8,8 @@ side-numbers-requires c κs = search needs
 phase-number-requires : tie.Need-phase-number-requires
 phase-number-requires c κs = search needs
 
-element-copy-out-flag-number : tie.Need-element-copy-out-flag-number
-element-copy-out-flag-number c = search needs
+element-copy-out-t10 : tie.Need-element-copy-out-t10
+element-copy-out-t10 c = search needs
 
 flag-number-requires : tie.Need-flag-number-requires
 flag-number-requires c κs = search needs
@@ -17,17 +17,22 @@ flag-number-requires c κs = search needs
 flag-number-requires-2 : tie.Need-flag-number-requires-2
 flag-number-requires-2 c κs = search needs
 
-element-copy-out-t15 : tie.Need-element-copy-out-t15
-element-copy-out-t15 c = search needs
+flag-number-requires-3 : tie.Need-flag-number-requires-3
+flag-number-requires-3 c κs = search needs
 
-element-copy-out-t18 : tie.Need-element-copy-out-t18
-element-copy-out-t18 c = search needs
+flag-number-requires-4 : tie.Need-flag-number-requires-4
+flag-number-requires-4 c κs = search needs
+
+slice-aggregate-put-bytes : tie.Need-slice-aggregate-put-bytes
+slice-aggregate-put-bytes c = search needs
+
+put-bytes-requires : tie.Need-put-bytes-requires
+put-bytes-requires c κs = search needs
 
 returns : tie.Need-returns
 returns c =
-    let marred = c .before .before .before .before in
-    let phase = marred .before .before in
-    rw (phase .before .side-numbers .ensures, phase .phase-number .ensures, marred .flag-number .ensures, c .before .before .before .flag-number2 .ensures)
+    let phase = c .before .before .before .before .before .before .before .before in
+    rw (c .put-bytes .ensures .cells, phase .before .side-numbers .ensures, phase .phase-number .ensures, c .before .before .before .before .before .before .flag-number .ensures, c .before .before .before .before .before .flag-number2 .ensures, c .before .before .before .before .flag-number3 .ensures, c .before .before .before .flag-number4 .ensures)
 
 pub put-in-place-spec : {M : Type 1} → statement M
 put-in-place-spec =
@@ -35,9 +40,11 @@ put-in-place-spec =
     (tie.spec
     side-numbers-requires
     phase-number-requires
-    element-copy-out-flag-number
+    element-copy-out-t10
     flag-number-requires
     flag-number-requires-2
-    element-copy-out-t15
-    element-copy-out-t18
+    flag-number-requires-3
+    flag-number-requires-4
+    slice-aggregate-put-bytes
+    put-bytes-requires
     returns)

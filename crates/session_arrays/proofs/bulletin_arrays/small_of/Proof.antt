@@ -14,9 +14,19 @@ flag-number-requires c κs = search needs
 flag-number-requires-2 : tie.Need-flag-number-requires-2
 flag-number-requires-2 c κs = search needs
 
+flag-number-requires-3 : tie.Need-flag-number-requires-3
+flag-number-requires-3 c κs = search needs
+
+flag-number-requires-4 : tie.Need-flag-number-requires-4
+flag-number-requires-4 c κs = search needs
+
+flag-number-requires-5 : tie.Need-flag-number-requires-5
+flag-number-requires-5 c κs = search needs
+
 returns : tie.Need-returns
 returns c =
-    rw (c .before .before .before .side-numbers .ensures, c .before .before .phase-number .ensures, c .before .flag-number .ensures, c .flag-number2 .ensures)
+    let phase = c .before .before .before .before .before in
+    rw (phase .before .side-numbers .ensures, phase .phase-number .ensures, c .before .before .before .before .flag-number .ensures, c .before .before .before .flag-number2 .ensures, c .before .before .flag-number3 .ensures, c .before .flag-number4 .ensures, c .flag-number5 .ensures)
 
 pub small-of-spec : {M : Type 1} → statement M
 small-of-spec =
@@ -26,4 +36,7 @@ small-of-spec =
     phase-number-requires
     flag-number-requires
     flag-number-requires-2
+    flag-number-requires-3
+    flag-number-requires-4
+    flag-number-requires-5
     returns)

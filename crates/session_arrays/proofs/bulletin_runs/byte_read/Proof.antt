@@ -18,10 +18,10 @@ same-length-2 c = search needs
 
 returns : tie.Need-returns
 returns c =
-    let read = c .before .before .before .before .before .before .before .before in
+    let read = c .before .before .before .before .before .before .before .before .before in
     let a = read .before .before .before .before .before .before .args in
     let arrays = arraysOfBulletin (a .small .now) (a .counts .now) (a .body .now) (a .statuses .now) (a .marks .now) (a .cells .now) in
-    byte-in-place (a .b) arrays (read .read-in-place .ensures) (c .before .before .before .if1 .taken) (c .put-in-place .ensures)
+    byte-in-place (a .b) arrays (read .read-in-place .ensures) (c .before .before .before .before .if1 .taken) (c .put-in-place .ensures)
 
 read-by-value-requires : tie.Need-read-by-value-requires
 read-by-value-requires c κs =

@@ -8,14 +8,14 @@ element-copy-out-phase-of c = search needs
 phase-of-requires : tie.Need-phase-of-requires
 phase-of-requires c κs = search needs
 
-element-copy-out-is-plain : tie.Need-element-copy-out-is-plain
-element-copy-out-is-plain c = search needs
+waits-in-requires : tie.Need-waits-in-requires
+waits-in-requires c κs = search needs
 
 is-plain-requires : tie.Need-is-plain-requires
 is-plain-requires c κs = search needs
 
 returns : tie.Need-returns
-returns c = rw (c .is-plain .ensures, c .before .before .phase-of .ensures)
+returns c = rw (c .is-plain .ensures, c .before .waits-in .ensures, c .before .before .phase-of .ensures)
 
 pub is-plain-spec : {M : Type 1} → statement M
 is-plain-spec =
@@ -23,6 +23,6 @@ is-plain-spec =
     (tie.spec
     element-copy-out-phase-of
     phase-of-requires
-    element-copy-out-is-plain
+    waits-in-requires
     is-plain-requires
     returns)

@@ -8,14 +8,14 @@ element-copy-out-phase-of c = search needs
 phase-of-requires : tie.Need-phase-of-requires
 phase-of-requires c κs = search needs
 
-element-copy-out-data-stretch : tie.Need-element-copy-out-data-stretch
-element-copy-out-data-stretch c = search needs
+waits-in-requires : tie.Need-waits-in-requires
+waits-in-requires c κs = search needs
 
 data-stretch-requires : tie.Need-data-stretch-requires
 data-stretch-requires c κs = search needs
 
 returns : tie.Need-returns
-returns c = rw (c .data-stretch .ensures, c .before .before .phase-of .ensures)
+returns c = rw (c .data-stretch .ensures, c .before .waits-in .ensures, c .before .before .phase-of .ensures)
 
 pub plain-front-spec : {M : Type 1} → statement M
 plain-front-spec =
@@ -23,6 +23,6 @@ plain-front-spec =
     (tie.spec
     element-copy-out-phase-of
     phase-of-requires
-    element-copy-out-data-stretch
+    waits-in-requires
     data-stretch-requires
     returns)

@@ -3,26 +3,8 @@ use borrow.Author.Needs.{needs}
 use Rattle.session_arrays.proofs.bulletin_runs.read_in_place.Statement.{statement}
 use Rattle.session_arrays.proofs.bulletin_runs.read_in_place.Tie as tie
 
-element-copy-out-sides-of : tie.Need-element-copy-out-sides-of
-element-copy-out-sides-of c = search needs
-
-element-copy-out-sides-of-2 : tie.Need-element-copy-out-sides-of-2
-element-copy-out-sides-of-2 c = search needs
-
-element-copy-out-sides-of-3 : tie.Need-element-copy-out-sides-of-3
-element-copy-out-sides-of-3 c = search needs
-
-element-copy-out-sides-of-4 : tie.Need-element-copy-out-sides-of-4
-element-copy-out-sides-of-4 c = search needs
-
-element-copy-out-sides-of-5 : tie.Need-element-copy-out-sides-of-5
-element-copy-out-sides-of-5 c = search needs
-
-element-copy-out-sides-of-6 : tie.Need-element-copy-out-sides-of-6
-element-copy-out-sides-of-6 c = search needs
-
-sides-of-requires : tie.Need-sides-of-requires
-sides-of-requires c κs = search needs
+sides-in-requires : tie.Need-sides-in-requires
+sides-in-requires c κs = search needs
 
 element-copy-out-phase-of : tie.Need-element-copy-out-phase-of
 element-copy-out-phase-of c = search needs
@@ -30,15 +12,16 @@ element-copy-out-phase-of c = search needs
 phase-of-requires : tie.Need-phase-of-requires
 phase-of-requires c κs = search needs
 
-element-copy-out-read : tie.Need-element-copy-out-read
-element-copy-out-read c = search needs
+waits-in-requires : tie.Need-waits-in-requires
+waits-in-requires c κs = search needs
 
 read-requires : tie.Need-read-requires
 read-requires c κs =
-    let found = c .before .before .before in
-    let sides = found .before .before in
-    let start = sides .before .before .before .before .before .before .before .before .before in
-    rw (found .phase-of .ensures, sides .sides-of .ensures)
+    let waits = c .before .before in
+    let phase = waits .before in
+    let sides = phase .before .before in
+    let start = sides .before .before .before in
+    rw (waits .waits-in .ensures, phase .phase-of .ensures, sides .sides-in .ensures)
     (room-in-place (start .args .small .now) (start .args .b) (start .args .host .now) (start .args .wire .now) (start .pre))
 
 same-length : tie.Need-same-length
@@ -50,23 +33,18 @@ same-length-2 c = search needs
 returns : tie.Need-returns
 returns c =
     let read = c .before .before .before .before in
-    let found = read .before .before .before .before in
-    rw (← found .phase-of .ensures, ← found .before .before .sides-of .ensures) (read .read .ensures)
+    let waits = read .before .before .before in
+    let phase = waits .before in
+    rw (waits .waits-in .ensures, phase .phase-of .ensures, phase .before .before .sides-in .ensures) at (read .read .ensures)
 
 pub read-in-place-spec : {M : Type 1} → statement M
 read-in-place-spec =
     tie.close
     (tie.spec
-    element-copy-out-sides-of
-    element-copy-out-sides-of-2
-    element-copy-out-sides-of-3
-    element-copy-out-sides-of-4
-    element-copy-out-sides-of-5
-    element-copy-out-sides-of-6
-    sides-of-requires
+    sides-in-requires
     element-copy-out-phase-of
     phase-of-requires
-    element-copy-out-read
+    waits-in-requires
     read-requires
     same-length
     same-length-2

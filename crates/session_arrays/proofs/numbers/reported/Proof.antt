@@ -2,33 +2,31 @@ use borrow.Author.Needs.{needs}
 use Rattle.session_arrays.proofs.numbers.reported.Statement.{statement}
 use Rattle.session_arrays.proofs.numbers.reported.Tie as tie
 
-option-state-of-requires : tie.Need-option-state-of-requires
-option-state-of-requires c κs = search needs
+handlings-in-requires : tie.Need-handlings-in-requires
+handlings-in-requires c κs = search needs
 
-is-yes-requires : tie.Need-is-yes-requires
-is-yes-requires c κs = search needs
+handler-of-requires : tie.Need-handler-of-requires
+handler-of-requires c κs = search needs
 
-handling-while-requires : tie.Need-handling-while-requires
-handling-while-requires c κs = search needs
+handler-of-requires-2 : tie.Need-handler-of-requires-2
+handler-of-requires-2 c κs = search needs
 
-handler-number-requires : tie.Need-handler-number-requires
-handler-number-requires c κs = search needs
+handler-of-requires-3 : tie.Need-handler-of-requires-3
+handler-of-requires-3 c κs = search needs
 
-handling-value-requires : tie.Need-handling-value-requires
-handling-value-requires c κs = search needs
+handler-of-requires-4 : tie.Need-handler-of-requires-4
+handler-of-requires-4 c κs = search needs
 
 returns : tie.Need-returns
-returns c =
-    let h = c .before .before in
-    rw (c .handling-value .ensures, c .before .handler-number .ensures, h .handling-while .ensures, h .before .is-yes .ensures, h .before .before .option-state-of .ensures)
+returns c = rw (c .handler-of4 .ensures, c .before .handler-of3 .ensures, c .before .before .handler-of2 .ensures, c .before .before .before .handler-of .ensures, c .before .before .before .before .handlings-in .ensures)
 
 pub reported-spec : {M : Type 1} → statement M
 reported-spec =
     tie.close
     (tie.spec
-    option-state-of-requires
-    is-yes-requires
-    handling-while-requires
-    handler-number-requires
-    handling-value-requires
+    handlings-in-requires
+    handler-of-requires
+    handler-of-requires-2
+    handler-of-requires-3
+    handler-of-requires-4
     returns)

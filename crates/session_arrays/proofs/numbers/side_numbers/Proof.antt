@@ -20,6 +20,15 @@ option-state-number-requires-5 c κs = search needs
 option-state-number-requires-6 : tie.Need-option-state-number-requires-6
 option-state-number-requires-6 c κs = search needs
 
+option-state-number-requires-7 : tie.Need-option-state-number-requires-7
+option-state-number-requires-7 c κs = search needs
+
+option-state-number-requires-8 : tie.Need-option-state-number-requires-8
+option-state-number-requires-8 c κs = search needs
+
+option-state-number-requires-9 : tie.Need-option-state-number-requires-9
+option-state-number-requires-9 c κs = search needs
+
 returns : tie.Need-returns
 returns c = cc
 
@@ -33,4 +42,7 @@ side-numbers-spec =
     option-state-number-requires-4
     option-state-number-requires-5
     option-state-number-requires-6
+    option-state-number-requires-7
+    option-state-number-requires-8
+    option-state-number-requires-9
     returns)

@@ -17,8 +17,8 @@ option-state-of-requires-4 c κs = search needs
 option-state-of-requires-5 : tie.Need-option-state-of-requires-5
 option-state-of-requires-5 c κs = search needs
 
-option-state-of-requires-6 : tie.Need-option-state-of-requires-6
-option-state-of-requires-6 c κs = search needs
+dispositions-of-requires : tie.Need-dispositions-of-requires
+dispositions-of-requires c κs = search needs
 
 returns : tie.Need-returns
 returns c = cc
@@ -32,5 +32,5 @@ sides-of-spec =
     option-state-of-requires-3
     option-state-of-requires-4
     option-state-of-requires-5
-    option-state-of-requires-6
+    dispositions-of-requires
     returns)

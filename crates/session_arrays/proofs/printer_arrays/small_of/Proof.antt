@@ -22,8 +22,8 @@ flag-number-requires-4 c κs = search needs
 
 returns : tie.Need-returns
 returns c =
-    let n = c .before .before .before .before in
-    rw (n .before .side-numbers .ensures, n .phase-number .ensures, c .before .before .before .flag-number .ensures, c .before .before .flag-number2 .ensures, c .before .flag-number3 .ensures, c .flag-number4 .ensures)
+    let phase = c .before .before .before .before in
+    rw (phase .before .side-numbers .ensures, phase .phase-number .ensures, c .before .before .before .flag-number .ensures, c .before .before .flag-number2 .ensures, c .before .flag-number3 .ensures, c .flag-number4 .ensures)
 
 pub small-of-spec : {M : Type 1} → statement M
 small-of-spec =

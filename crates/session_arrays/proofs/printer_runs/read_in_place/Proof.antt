@@ -3,26 +3,8 @@ use borrow.Author.Needs.{needs}
 use Rattle.session_arrays.proofs.printer_runs.read_in_place.Statement.{statement}
 use Rattle.session_arrays.proofs.printer_runs.read_in_place.Tie as tie
 
-element-copy-out-sides-of : tie.Need-element-copy-out-sides-of
-element-copy-out-sides-of c = search needs
-
-element-copy-out-sides-of-2 : tie.Need-element-copy-out-sides-of-2
-element-copy-out-sides-of-2 c = search needs
-
-element-copy-out-sides-of-3 : tie.Need-element-copy-out-sides-of-3
-element-copy-out-sides-of-3 c = search needs
-
-element-copy-out-sides-of-4 : tie.Need-element-copy-out-sides-of-4
-element-copy-out-sides-of-4 c = search needs
-
-element-copy-out-sides-of-5 : tie.Need-element-copy-out-sides-of-5
-element-copy-out-sides-of-5 c = search needs
-
-element-copy-out-sides-of-6 : tie.Need-element-copy-out-sides-of-6
-element-copy-out-sides-of-6 c = search needs
-
-sides-of-requires : tie.Need-sides-of-requires
-sides-of-requires c κs = search needs
+sides-in-requires : tie.Need-sides-in-requires
+sides-in-requires c κs = search needs
 
 element-copy-out-phase-of : tie.Need-element-copy-out-phase-of
 element-copy-out-phase-of c = search needs
@@ -35,8 +17,8 @@ element-copy-out-read c = search needs
 
 read-requires : tie.Need-read-requires
 read-requires c κs =
-    let start = c .before .before .before .before .before .before .before .before .before .before .before .before .before .before in
-    rw (c .before .before .before .before .before .sides-of .ensures, c .before .before .before .phase-of .ensures) (start .pre)
+    let start = c .before .before .before .before .before .before .before .before .before in
+    rw (c .before .before .before .before .before .sides-in .ensures, c .before .before .before .phase-of .ensures) (start .pre)
 
 put-in-place-requires : tie.Need-put-in-place-requires
 put-in-place-requires c κs = search needs
@@ -50,7 +32,7 @@ same-length-2 c = search needs
 returns : tie.Need-returns
 returns c =
     let read = c .before .before .before .before .before .before .before .before in
-    stored-handled (rw (read .before .before .before .before .before .before .sides-of .ensures, read .before .before .before .before .phase-of .ensures) at (read .read .ensures)) (c .before .before .before .if1 .taken) (c .put-in-place .ensures)
+    stored-handled (rw (read .before .before .before .before .before .before .sides-in .ensures, read .before .before .before .before .phase-of .ensures) at (read .read .ensures)) (c .before .before .before .if1 .taken) (c .put-in-place .ensures)
 
 same-length-3 : tie.Need-same-length-3
 same-length-3 c = search needs
@@ -61,19 +43,13 @@ same-length-4 c = search needs
 returns-2 : tie.Need-returns-2
 returns-2 c =
     let read = c .before .before .before .before .before in
-    stored-unhandled (rw (read .before .before .before .before .before .before .sides-of .ensures, read .before .before .before .before .phase-of .ensures) at (read .read .ensures)) (c .if1 .left)
+    stored-unhandled (rw (read .before .before .before .before .before .before .sides-in .ensures, read .before .before .before .before .phase-of .ensures) at (read .read .ensures)) (c .if1 .left)
 
 pub read-in-place-spec : {M : Type 1} → statement M
 read-in-place-spec =
     tie.close
     (tie.spec
-    element-copy-out-sides-of
-    element-copy-out-sides-of-2
-    element-copy-out-sides-of-3
-    element-copy-out-sides-of-4
-    element-copy-out-sides-of-5
-    element-copy-out-sides-of-6
-    sides-of-requires
+    sides-in-requires
     element-copy-out-phase-of
     phase-of-requires
     element-copy-out-read

@@ -1,13 +1,13 @@
 -- `report` on a lent record answers what it answers by value.
 use mathlib.Core.Path.{_≡_}
-use Rattle.disposition.specs.Returns.{reportOf}
-use Rattle.disposition.proofs.Handling as D
-use Rattle.disposition.proofs.Handling.Laws as D′
+use Rattle.disposition.specs.Handled.{reportsOf}
+use Rattle.disposition.proofs.Handlings as D
+use Rattle.disposition.proofs.Handlings.Laws as D′
 use Rattle.bulletin.proofs.Bulletin as P
 use Rattle.bulletin.proofs.Bulletin.Laws as P′
-use Rattle.bulletin.specs.Calls.{returnsReport}
+use Rattle.bulletin.specs.Calls.{dispositionsReport}
 use Rattle.bulletin.specs.Refinement.{viewBulletin}
-use Rattle.sessions.proofs.Wrappers.{of-enum}
+use Rattle.sessions.proofs.Wrappers.{of-struct}
 use Rattle.sessions.proofs.Question.{meets}
 use Rattle.sessions.proofs.BulletinEnd.{state-plain}
 use contract.Running.{givenOf, tables, tablesOf}
@@ -23,12 +23,12 @@ use Rattle.sessions.proofs.bulletin_end.report.Statement as stated
 use Rattle.sessions.proofs.bulletin_end.report.Code as code
 
 abbrev answers : P.the-row .Denot → D.the-row .Denot → Type 0
-answers s r = reportOf r ≡ returnsReport (viewBulletin s)
+answers s r = reportsOf r ≡ dispositionsReport (viewBulletin s)
 
 pub report-spec : {M : Type 1} → stated.statement M
 unfolding code.routine tablesOf
 report-spec 𝓤 H 𝓜 𝓖 𝓡 =
     entered 𝓤 H (tripleOf 𝓤 H (𝓖 .A) outer.signature (outer.spec 𝓤 H (𝓖 .A) (𝓜 .mem) (𝓡 .run)))
     (tables 𝓤 H 𝓜 𝓡 code.env .C) (tables 𝓤 H 𝓜 𝓡 code.env .Λ) #outer code.function (code.unfolded 𝓤 H 𝓜 𝓡)
-    (meets P.the-row P′.mir D.the-row D′.mir 𝓤 H (𝓖 .A) (givenOf 𝓤 H 𝓜 𝓖) state-plain (of-enum D.the-type D′.the-laws tt D′.the-plain) answers #inner (tablesOf 𝓤 H 𝓜 (tables 𝓤 H 𝓜 𝓡 code.env))
+    (meets P.the-row P′.mir D.the-row D′.mir 𝓤 H (𝓖 .A) (givenOf 𝓤 H 𝓜 𝓖) state-plain (of-struct D.the-type D′.the-laws D′.the-plain) answers #inner (tablesOf 𝓤 H 𝓜 (tables 𝓤 H 𝓜 𝓡 code.env))
     (cited 𝓤 H (tripleOf 𝓤 H (𝓖 .A) inner.signature (inner.spec 𝓤 H (𝓖 .A) (𝓜 .mem) (𝓡 .run))) 𝓜 𝓡 code.env #inner inner-def.routine code.calls-bulletin·calls·report (inner-thm.met 𝓤 H 𝓜 𝓖 𝓡)))
