@@ -38,7 +38,8 @@ enum {
     PRAMBOW_NO_TEXT = 10,           /* the byte is no accepted macro */
     PRAMBOW_ECHO_AGAINST_RCTE = 11, /* of ECHO and RCTE only one may be asked for */
     PRAMBOW_BAD_VALUE = 12,         /* no such value, or no such command */
-    PRAMBOW_OUTPUT_WAITS = 13       /* behind what was sent last output waits for a byte */
+    PRAMBOW_OUTPUT_WAITS = 13,      /* behind what was sent last output waits for a byte */
+    PRAMBOW_ISSUE_DIFFERS = 14      /* the byte's text was defined in another issue */
 };
 
 /* The notes of a network byte: what came of a body or a command that was not acted on. */
@@ -80,7 +81,7 @@ enum {
     PRAMBOW_FREE = 0,
     PRAMBOW_PENDING = 1,        /* no answer yet */
     PRAMBOW_PENDING_FREE = 2,   /* defined as itself, no answer yet */
-    PRAMBOW_ACCEPTED = 3,       /* the byte may be used */
+    PRAMBOW_ACCEPTED = 3,       /* the byte may be used, in the issue that the DEFINE kept */
     PRAMBOW_REFUSED = 4
 };
 
@@ -127,6 +128,13 @@ typedef struct prambow_report {
     prambow_handling naohtd;
 } prambow_report;
 
+/* How a macro byte stands. A use of it needs PRAMBOW_ACCEPTED and two equal numbers. */
+typedef struct prambow_standing {
+    uint8_t status;   /* PRAMBOW_FREE to PRAMBOW_REFUSED */
+    uint16_t kept;    /* the issue that its last DEFINE kept; 0 without one */
+    uint16_t present; /* the issue in force */
+} prambow_standing;
+
 /* A session of the printer end, which is keyboard and paper. */
 typedef struct prambow_printer {
     size_t counts[3];      /* bytes of the body, waiting keys, gathered bytes */
@@ -143,16 +151,18 @@ typedef struct prambow_printer {
 /* A session of the bulletin end, which is the serving host. */
 typedef struct prambow_bulletin {
     size_t counts[1];      /* bytes of the body */
+    uint16_t issue[1];     /* the issue in force */
     uint16_t marks[256];   /* for each byte 0, or the length of its text and 1 */
+    uint16_t kept[256];    /* the issue that each byte's last DEFINE kept */
     uint8_t body[260];     /* the subnegotiation that is being read */
     uint8_t statuses[256]; /* how each byte's last DEFINE stands */
     uint8_t cells[1024];   /* the texts of macros, packed */
     uint8_t small[23];     /* nine option states, phase, marred, waiting for each of four, four pairs of DS and DR */
-    uint8_t unused[5];     /* no call reads or writes it: there is no padding */
+    uint8_t unused[3];     /* no call reads or writes it: there is no padding */
 } prambow_bulletin;
 
 #define PRAMBOW_PRINTER_SIZE 2872  /* bytes of a printer end's session */
-#define PRAMBOW_BULLETIN_SIZE 2088 /* bytes of a bulletin end's session */
+#define PRAMBOW_BULLETIN_SIZE 2600 /* bytes of a bulletin end's session */
 
 #ifdef __cplusplus
 #define PRAMBOW_CHECKED static_assert
@@ -171,8 +181,9 @@ PRAMBOW_CHECKED(sizeof(prambow_bulletin) == PRAMBOW_BULLETIN_SIZE, "a bulletin e
 #define PRAMBOW_PRINTER_OF(s) (s)->small, (s)->classes, (s)->counts, (s)->body, (s)->marks, (s)->cells, \
     (s)->waiting, (s)->gathered
 #define PRAMBOW_BULLETIN_ARRAYS uint8_t *small, size_t *counts, uint8_t *body, uint8_t *statuses, uint16_t *marks, \
-    uint8_t *cells
-#define PRAMBOW_BULLETIN_OF(s) (s)->small, (s)->counts, (s)->body, (s)->statuses, (s)->marks, (s)->cells
+    uint8_t *cells, uint16_t *issue, uint16_t *kept
+#define PRAMBOW_BULLETIN_OF(s) (s)->small, (s)->counts, (s)->body, (s)->statuses, (s)->marks, (s)->cells, \
+    (s)->issue, (s)->kept
 
 /* The printer end. */
 
@@ -324,7 +335,7 @@ static inline prambow_outcome prambow_bulletin_define(prambow_bulletin *s, uint8
     return prambow_bulletin_define_arrays(PRAMBOW_BULLETIN_OF(s), x, text, text_len, wire, wire_len);
 }
 
-/* An accepted macro, by its byte. Refused: 1, 6, 13, 10. */
+/* An accepted macro, by its byte. Refused: 1, 6, 13, 10, 14. */
 prambow_outcome prambow_bulletin_use_macro_arrays(PRAMBOW_BULLETIN_ARRAYS, uint8_t x, uint8_t *wire,
     size_t wire_len);
 
@@ -344,12 +355,22 @@ static inline prambow_outcome prambow_bulletin_text_item(prambow_bulletin *s, ui
     return prambow_bulletin_text_item_arrays(PRAMBOW_BULLETIN_OF(s), kind, b, wire, wire_len);
 }
 
-/* How the last DEFINE of a byte stands: PRAMBOW_FREE to PRAMBOW_REFUSED. */
-uint8_t prambow_bulletin_macro_status_arrays(const uint8_t *small, const uint8_t *statuses, uint8_t x);
+/* The forecast issue is n from now on; in a fresh end it is 0. It writes nothing, and is lent a wire buffer all the same.
+ * Refused: 1. */
+prambow_outcome prambow_bulletin_issue_arrays(PRAMBOW_BULLETIN_ARRAYS, uint16_t n, uint8_t *wire, size_t wire_len);
 
-static inline uint8_t prambow_bulletin_macro_status(const prambow_bulletin *s, uint8_t x)
+static inline prambow_outcome prambow_bulletin_issue(prambow_bulletin *s, uint16_t n, uint8_t *wire, size_t wire_len)
 {
-    return prambow_bulletin_macro_status_arrays(s->small, s->statuses, x);
+    return prambow_bulletin_issue_arrays(PRAMBOW_BULLETIN_OF(s), n, wire, wire_len);
+}
+
+/* How the last DEFINE of a byte stands, the issue that it kept, and the issue in force. */
+prambow_standing prambow_bulletin_macro_standing_arrays(const uint8_t *small, const uint8_t *statuses,
+    const uint16_t *issue, const uint16_t *kept, uint8_t x);
+
+static inline prambow_standing prambow_bulletin_macro_standing(const prambow_bulletin *s, uint8_t x)
+{
+    return prambow_bulletin_macro_standing_arrays(s->small, s->statuses, s->issue, s->kept, x);
 }
 
 /* Of each option about output disposition who handles its character, and how. */

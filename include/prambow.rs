@@ -64,6 +64,16 @@ pub struct Report {
     pub naohtd: Handling,
 }
 
+/// How a macro byte stands: its status (0 free, 1 pending, 2 pending as itself, 3 accepted, 4 refused), the issue that its last
+/// DEFINE kept (0 without one), and the issue in force. A use of it needs 3 and two equal numbers.
+#[derive(Clone, Copy, Debug, PartialEq, Eq)]
+#[repr(C)]
+pub struct Standing {
+    pub status: u8,
+    pub kept: u16,
+    pub present: u16,
+}
+
 /// A session of the printer end, which is keyboard and paper.
 #[derive(Clone)]
 #[repr(C)]
@@ -83,7 +93,9 @@ pub struct Printer {
 #[repr(C)]
 pub struct Bulletin {
     counts: [usize; 1],
+    issue: [u16; 1],
     marks: [u16; 256],
+    kept: [u16; 256],
     body: [u8; 260],
     statuses: [u8; 256],
     cells: [u8; 1024],
@@ -124,45 +136,56 @@ extern "C" {
     fn prambow_printer_waiting_arrays(counts: &[usize; 3]) -> usize;
     fn prambow_bulletin_fresh_arrays(
         small: &mut [u8; 23], counts: &mut [usize; 1], body: &mut [u8; 260], statuses: &mut [u8; 256],
-        marks: &mut [u16; 256], cells: &mut [u8; 1024],
+        marks: &mut [u16; 256], cells: &mut [u8; 1024], issue: &mut [u16; 1], kept: &mut [u16; 256],
     );
     fn prambow_bulletin_network_byte_arrays(
         small: &mut [u8; 23], counts: &mut [usize; 1], body: &mut [u8; 260], statuses: &mut [u8; 256],
-        marks: &mut [u16; 256], cells: &mut [u8; 1024], b: u8, host: *mut u8, host_len: usize, wire: *mut u8,
-        wire_len: usize,
+        marks: &mut [u16; 256], cells: &mut [u8; 1024], issue: &mut [u16; 1], kept: &mut [u16; 256], b: u8,
+        host: *mut u8, host_len: usize, wire: *mut u8, wire_len: usize,
     ) -> Outcome;
     fn prambow_bulletin_network_bytes_arrays(
         small: &mut [u8; 23], counts: &mut [usize; 1], body: &mut [u8; 260], statuses: &mut [u8; 256],
-        marks: &mut [u16; 256], cells: &mut [u8; 1024], bytes: *const u8, bytes_len: usize, host: *mut u8,
-        host_len: usize, wire: *mut u8, wire_len: usize,
+        marks: &mut [u16; 256], cells: &mut [u8; 1024], issue: &mut [u16; 1], kept: &mut [u16; 256],
+        bytes: *const u8, bytes_len: usize, host: *mut u8, host_len: usize, wire: *mut u8, wire_len: usize,
     ) -> Run;
     fn prambow_bulletin_ask_arrays(
         small: &mut [u8; 23], counts: &mut [usize; 1], body: &mut [u8; 260], statuses: &mut [u8; 256],
-        marks: &mut [u16; 256], cells: &mut [u8; 1024], option: u8, way: u8, wire: *mut u8, wire_len: usize,
+        marks: &mut [u16; 256], cells: &mut [u8; 1024], issue: &mut [u16; 1], kept: &mut [u16; 256], option: u8,
+        way: u8, wire: *mut u8, wire_len: usize,
     ) -> Outcome;
     fn prambow_bulletin_suggest_arrays(
         small: &mut [u8; 23], counts: &mut [usize; 1], body: &mut [u8; 260], statuses: &mut [u8; 256],
-        marks: &mut [u16; 256], cells: &mut [u8; 1024], option: u8, value: u8, wire: *mut u8, wire_len: usize,
+        marks: &mut [u16; 256], cells: &mut [u8; 1024], issue: &mut [u16; 1], kept: &mut [u16; 256], option: u8,
+        value: u8, wire: *mut u8, wire_len: usize,
     ) -> Outcome;
     fn prambow_bulletin_order_arrays(
         small: &mut [u8; 23], counts: &mut [usize; 1], body: &mut [u8; 260], statuses: &mut [u8; 256],
-        marks: &mut [u16; 256], cells: &mut [u8; 1024], cmd: u8, breaks: u16, sends: u16, wire: *mut u8,
-        wire_len: usize,
+        marks: &mut [u16; 256], cells: &mut [u8; 1024], issue: &mut [u16; 1], kept: &mut [u16; 256], cmd: u8,
+        breaks: u16, sends: u16, wire: *mut u8, wire_len: usize,
     ) -> Outcome;
     fn prambow_bulletin_define_arrays(
         small: &mut [u8; 23], counts: &mut [usize; 1], body: &mut [u8; 260], statuses: &mut [u8; 256],
-        marks: &mut [u16; 256], cells: &mut [u8; 1024], x: u8, text: *const u8, text_len: usize, wire: *mut u8,
-        wire_len: usize,
+        marks: &mut [u16; 256], cells: &mut [u8; 1024], issue: &mut [u16; 1], kept: &mut [u16; 256], x: u8,
+        text: *const u8, text_len: usize, wire: *mut u8, wire_len: usize,
     ) -> Outcome;
     fn prambow_bulletin_use_macro_arrays(
         small: &mut [u8; 23], counts: &mut [usize; 1], body: &mut [u8; 260], statuses: &mut [u8; 256],
-        marks: &mut [u16; 256], cells: &mut [u8; 1024], x: u8, wire: *mut u8, wire_len: usize,
+        marks: &mut [u16; 256], cells: &mut [u8; 1024], issue: &mut [u16; 1], kept: &mut [u16; 256], x: u8,
+        wire: *mut u8, wire_len: usize,
     ) -> Outcome;
     fn prambow_bulletin_text_item_arrays(
         small: &mut [u8; 23], counts: &mut [usize; 1], body: &mut [u8; 260], statuses: &mut [u8; 256],
-        marks: &mut [u16; 256], cells: &mut [u8; 1024], kind: u8, b: u8, wire: *mut u8, wire_len: usize,
+        marks: &mut [u16; 256], cells: &mut [u8; 1024], issue: &mut [u16; 1], kept: &mut [u16; 256], kind: u8, b: u8,
+        wire: *mut u8, wire_len: usize,
     ) -> Outcome;
-    fn prambow_bulletin_macro_status_arrays(small: &[u8; 23], statuses: &[u8; 256], x: u8) -> u8;
+    fn prambow_bulletin_issue_arrays(
+        small: &mut [u8; 23], counts: &mut [usize; 1], body: &mut [u8; 260], statuses: &mut [u8; 256],
+        marks: &mut [u16; 256], cells: &mut [u8; 1024], issue: &mut [u16; 1], kept: &mut [u16; 256], n: u16,
+        wire: *mut u8, wire_len: usize,
+    ) -> Outcome;
+    fn prambow_bulletin_macro_standing_arrays(
+        small: &[u8; 23], statuses: &[u8; 256], issue: &[u16; 1], kept: &[u16; 256], x: u8,
+    ) -> Standing;
     fn prambow_bulletin_report_arrays(small: &[u8; 23]) -> Report;
     fn prambow_bulletin_output_arrays(small: &[u8; 23]) -> u8;
 }
@@ -177,7 +200,7 @@ macro_rules! on_printer {
 // A call on the arrays of a session.
 macro_rules! on_bulletin {
     ($s:expr, $call:ident $(, $given:expr)*) => {
-        unsafe { $call(&mut $s.small, &mut $s.counts, &mut $s.body, &mut $s.statuses, &mut $s.marks, &mut $s.cells $(, $given)*) }
+        unsafe { $call(&mut $s.small, &mut $s.counts, &mut $s.body, &mut $s.statuses, &mut $s.marks, &mut $s.cells, &mut $s.issue, &mut $s.kept $(, $given)*) }
     };
 }
 
@@ -284,7 +307,9 @@ impl Bulletin {
     pub fn fresh() -> Bulletin {
         let mut s = Bulletin {
             counts: [0; 1],
+            issue: [0; 1],
             marks: [0; 256],
+            kept: [0; 256],
             body: [0; 260],
             statuses: [0; 256],
             cells: [0; 1024],
@@ -351,9 +376,14 @@ impl Bulletin {
         on_bulletin!(self, prambow_bulletin_text_item_arrays, kind, b, wire.as_mut_ptr(), wire.len())
     }
 
-    /// How the last DEFINE of a byte stands: 0 free, 1 pending, 2 pending as itself, 3 accepted, 4 refused.
-    pub fn macro_status(&self, x: u8) -> u8 {
-        unsafe { prambow_bulletin_macro_status_arrays(&self.small, &self.statuses, x) }
+    /// The forecast issue is n from now on; in a fresh end it is 0. It writes nothing, and is lent a wire buffer all the same.
+    pub fn issue(&mut self, n: u16, wire: &mut [u8]) -> Outcome {
+        on_bulletin!(self, prambow_bulletin_issue_arrays, n, wire.as_mut_ptr(), wire.len())
+    }
+
+    /// How the last DEFINE of a byte stands, the issue that it kept, and the issue in force.
+    pub fn macro_standing(&self, x: u8) -> Standing {
+        unsafe { prambow_bulletin_macro_standing_arrays(&self.small, &self.statuses, &self.issue, &self.kept, x) }
     }
 
     /// Of each option about output disposition who handles its character, and how.

@@ -30,7 +30,7 @@ OPTIONS = 4  # about output disposition: NAOCRD, NAOLFD, NAOFFD, NAOHTD
 OUTPUTS = ["ready", "waiting"]
 TAKES = {  # bytes; network bytes and keys are a call each, and a text may have any number
     "P": {"net": 1, "key": 1, "ask": 2, "suggest": 2, "report": 0},
-    "B": {"net": 1, "text": 1, "ask": 2, "suggest": 2, "order": 5, "define": 1, "use": 1, "status": 1, "report": 0, "output": 0},
+    "B": {"net": 1, "text": 1, "ask": 2, "suggest": 2, "order": 5, "define": 1, "use": 1, "issue": 2, "status": 1, "report": 0, "output": 0},
 }
 
 
@@ -148,7 +148,7 @@ def call_term(end, call, b, paper, wire):
     form = {"net": lambda: "BS.network %d %d" % (b[0], paper), "ask": lambda: "BS.ask %d %d" % (b[0], b[1]),
             "suggest": lambda: "BS.suggest %d %d" % (b[0], b[1]), "order": lambda: "BS.order %d %d %d" % (b[0], b[1], b[2]),
             "define": lambda: "BS.define %d (%s)" % (b[0], numbers(b[1:])), "use": lambda: "BS.useMacro %d" % b[0],
-            "text": lambda: "BS.text %s" % key_term(*b)}
+            "text": lambda: "BS.text %s" % key_term(*b), "issue": lambda: "BS.issue %d" % b[0]}
     return "call (%s %d)" % (form[call](), wire)
 
 
@@ -166,7 +166,7 @@ def from_json(path):
         if c.get("end") not in ("P", "B"):
             raise BadList('%s: line %d names the end %r; "P" and "B" are known' % (path, i + 1, c.get("end")))
         kind = c.get("call")
-        fields = {"net": ["b"], "ask": ["opt", "way"], "suggest": ["opt", "v"], "order": ["cmd", "bc", "tc"], "use": ["x"]}
+        fields = {"net": ["b"], "ask": ["opt", "way"], "suggest": ["opt", "v"], "order": ["cmd", "bc", "tc"], "use": ["x"], "issue": ["n"]}
         try:
             if kind in ("key", "text"):
                 b = (("char", "line", "command")[c["kind"]], c.get("v", 0))
@@ -217,9 +217,13 @@ def line_calls(line, room):
         return [call_term(end, name, [v], paper, wire) for v in b]
     if len(b) != TAKES[end][name] and not (name == "define" and b):
         raise BadList("this call takes another number of bytes")
-    if name in ("status", "report", "output"):
+    if name in QUESTIONS:
         return [" ".join([name, *("%d" % v for v in b)])]
-    return [call_term(end, name, [b[0], 256 * b[1] + b[2], 256 * b[3] + b[4]] if name == "order" else b, paper, wire)]
+    if name == "order":
+        b = [b[0], 256 * b[1] + b[2], 256 * b[3] + b[4]]
+    elif name == "issue":
+        b = [256 * b[0] + b[1]]
+    return [call_term(end, name, b, paper, wire)]
 
 
 def report_numbers(text):
@@ -230,16 +234,28 @@ def report_numbers(text):
     return [n for who, value in zip(words[::2], words[1::2]) for n in (HANDLERS.index(who), int(value))]
 
 
+def standing_numbers(text):
+    """How a macro byte stands, as numbers: its status, the issue that its definition kept, the issue in force."""
+    words = re.fullmatch(r"(.*) (\d+) (\d+)", text)
+    if not words or words[1] not in STATUSES:
+        raise BadList("no answer to status: %s" % text)
+    return [STATUSES.index(words[1]), int(words[2]), int(words[3])]
+
+
+def output_numbers(text):
+    if text not in OUTPUTS:
+        raise BadList("no answer to output: %s" % text)
+    return [OUTPUTS.index(text)]
+
+
+QUESTIONS = {"status": standing_numbers, "report": report_numbers, "output": output_numbers}
+
+
 def answer_of(term, text, waiting):
     """An answer's line as a term, and how many keys wait after it."""
     name = term.split()[0]
     if name != "call":
-        if name == "report":
-            return told(*report_numbers(text)), waiting
-        known = {"status": STATUSES, "output": OUTPUTS}[name]
-        if text not in known:
-            raise BadList("no answer to %s: %s" % (name, text))
-        return told(known.index(text)), waiting
+        return told(*QUESTIONS[name](text)), waiting
     code, note, paper, wire, waiting = text.split()
     return shown(int(code), int(note), *(bytes.fromhex(h.replace("-", "")) for h in (paper, wire)), int(waiting)), int(waiting)
 

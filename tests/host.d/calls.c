@@ -40,6 +40,11 @@ static int told(prambow_report r)
     return printf("%d %d %d %d\n", r.naoffd.who, r.naoffd.value, r.naohtd.who, r.naohtd.value);
 }
 
+static int stands(prambow_standing s)
+{
+    return printf("%d %d %d\n", s.status, s.kept, s.present);
+}
+
 static int at_printer(const char *call)
 {
     prambow_outcome o;
@@ -68,7 +73,7 @@ static int asked_bulletin(const char *call)
     if (!strcmp(call, "report"))
         return told(prambow_bulletin_report(&b));
     if (!strcmp(call, "status"))
-        return printf("%d\n", prambow_bulletin_macro_status(&b, (uint8_t)a[0]));
+        return stands(prambow_bulletin_macro_standing(&b, (uint8_t)a[0]));
     if (!strcmp(call, "output"))
         return printf("%d\n", prambow_bulletin_output(&b));
     if (strcmp(call, "fresh"))
@@ -97,6 +102,8 @@ static int at_bulletin(const char *call)
         o = prambow_bulletin_use_macro(&b, x, wire, wn);
     else if (!strcmp(call, "text"))
         o = prambow_bulletin_text_item(&b, x, y, wire, wn);
+    else if (!strcmp(call, "issue"))
+        o = prambow_bulletin_issue(&b, (uint16_t)a[0], wire, wn);
     else
         return asked_bulletin(call);
     answered(o, 0);

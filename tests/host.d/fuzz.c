@@ -107,7 +107,7 @@ static prambow_outcome at_bulletin(prambow_bulletin *b)
 {
     uint8_t x = (uint8_t)random_number(), y = (uint8_t)random_number();
     lend(&text, some_length(256), 1);
-    switch (below(8)) {
+    switch (below(9)) {
     case 0:
         return prambow_bulletin_ask(b, below(2) ? x : 19, y % 5, wire.at, wire.len);
     case 1:
@@ -120,6 +120,8 @@ static prambow_outcome at_bulletin(prambow_bulletin *b)
         return prambow_bulletin_use_macro(b, x, wire.at, wire.len);
     case 5:
         return prambow_bulletin_text_item(b, x % 4, below(2) ? disposed[below(4)] : y, wire.at, wire.len);
+    case 6:
+        return prambow_bulletin_issue(b, (uint16_t)random_number(), wire.at, wire.len);
     default:
         return prambow_bulletin_network_byte(b, below(3) ? x : 240 + x % 16, data.at, data.len, wire.at, wire.len);
     }
@@ -127,7 +129,7 @@ static prambow_outcome at_bulletin(prambow_bulletin *b)
 
 static int holds(prambow_outcome o, size_t unused)
 {
-    if (o.code > PRAMBOW_OUTPUT_WAITS || o.note > PRAMBOW_STRAY)
+    if (o.code > PRAMBOW_ISSUE_DIFFERS || o.note > PRAMBOW_STRAY)
         return 0;
     if (o.code != PRAMBOW_DONE && (o.note || o.first || o.wire || !same_from(&record, 0)))
         return 0;
@@ -211,6 +213,12 @@ static int report_holds(prambow_report r)
            r.naohtd.who <= PRAMBOW_SENDER;
 }
 
+static int standing_holds(const prambow_bulletin *b, uint8_t x)
+{
+    prambow_standing s = prambow_bulletin_macro_standing(b, x);
+    return s.status <= PRAMBOW_REFUSED && (s.kept == b->kept[x] || s.kept == 0) && s.present == b->issue[0];
+}
+
 static int questions_hold(int printer)
 {
     if (printer) {
@@ -219,7 +227,7 @@ static int questions_hold(int printer)
     }
     const prambow_bulletin *b = (const prambow_bulletin *)record.at;
     return report_holds(prambow_bulletin_report(b)) && prambow_bulletin_output(b) <= PRAMBOW_WAITING &&
-           prambow_bulletin_macro_status(b, (uint8_t)random_number()) <= PRAMBOW_REFUSED;
+           standing_holds(b, (uint8_t)random_number());
 }
 
 int main(int argc, char **argv)

@@ -1,6 +1,7 @@
-/* A host of both ends. First a tape from standard input on a printer end, with the lines that `replay` prints. Then a session
- * in which each end is given what the other sends: a macro is defined, accepted and used; of its new text a byte is lost on the
- * line, so it is refused, and the old text is not printed by its byte. */
+/* A host of both ends. First a tape from standard input on a printer end, with the lines that `replay` prints. Then two sessions
+ * in which each end is given what the other sends. A macro is defined, accepted and used; of its new text a byte is lost on the
+ * line, so it is refused, and the old text is not printed by its byte. A paragraph is used in the issue that it was defined in,
+ * and refused in the next. */
 #include "prambow.h"
 #include <stdio.h>
 #include <string.h>
@@ -69,7 +70,7 @@ static void answered(prambow_outcome o)
 
 /* What stands on the line is read by an end, as it would come from a socket, but for the byte at `lost`. Buffers of just the size
  * that code 1 asks for end a run behind each byte that writes, so every answer is seen. */
-static void read_line(prambow_printer *p, prambow_bulletin *b, size_t lost)
+static void read_line(prambow_printer *to, prambow_bulletin *back, size_t lost)
 {
     static uint8_t came[sizeof line];
     size_t n = 0;
@@ -78,40 +79,87 @@ static void read_line(prambow_printer *p, prambow_bulletin *b, size_t lost)
             came[n++] = line[i];
     on_line = 0;
     for (size_t at = 0; at < n;) {
-        prambow_run r = p ? prambow_printer_network_bytes(p, came + at, n - at, paper, sizeof paper, wire, sizeof wire)
-                          : prambow_bulletin_network_bytes(b, came + at, n - at, paper, sizeof paper, wire, sizeof wire);
+        prambow_run r = to ? prambow_printer_network_bytes(to, came + at, n - at, paper, sizeof paper, wire, sizeof wire)
+                           : prambow_bulletin_network_bytes(back, came + at, n - at, paper, sizeof paper, wire, sizeof wire);
         answered((prambow_outcome){r.code, r.note, r.first, r.wire});
         at += r.taken;
     }
 }
 
-static void run_macros(void)
+enum { MACRO = 0x80, NONE = PRAMBOW_WIRE_ROOM };
+
+static prambow_printer p;
+static prambow_bulletin b;
+
+/* Two fresh ends, which agree on BM. */
+static void begin(void)
 {
-    enum { MACRO = 0x80, NONE = PRAMBOW_WIRE_ROOM };
-    static prambow_printer p;
-    static prambow_bulletin b;
     prambow_printer_fresh(&p);
     prambow_bulletin_fresh(&b);
     answered(prambow_bulletin_ask(&b, PRAMBOW_BM, PRAMBOW_ENABLE_OURS, wire, sizeof wire));
     read_line(&p, NULL, NONE);
     read_line(NULL, &b, NONE);
-    answered(prambow_bulletin_define(&b, MACRO, (const uint8_t *)"OLD", 3, wire, sizeof wire));
-    read_line(&p, NULL, NONE);
+}
+
+static void define(const char *text, size_t lost)
+{
+    answered(prambow_bulletin_define(&b, MACRO, (const uint8_t *)text, strlen(text), wire, sizeof wire));
+    read_line(&p, NULL, lost);
     read_line(NULL, &b, NONE);
+}
+
+static void use(void)
+{
     answered(prambow_bulletin_use_macro(&b, MACRO, wire, sizeof wire));
     read_line(&p, NULL, NONE);
-    answered(prambow_bulletin_define(&b, MACRO, (const uint8_t *)"NEW", 3, wire, sizeof wire));
-    read_line(&p, NULL, 6);
-    read_line(NULL, &b, NONE);
-    answered(prambow_bulletin_use_macro(&b, MACRO, wire, sizeof wire));
-    answered(prambow_bulletin_text_item(&b, PRAMBOW_CHAR, MACRO, wire, sizeof wire));
+}
+
+static void print_text(const uint8_t *text, size_t n)
+{
+    for (size_t i = 0; i < n; i++)
+        answered(prambow_bulletin_text_item(&b, PRAMBOW_CHAR, text[i], wire, sizeof wire));
     read_line(&p, NULL, NONE);
-    printf("status %d\n", prambow_bulletin_macro_status(&b, MACRO));
+}
+
+static void standing(void)
+{
+    prambow_standing s = prambow_bulletin_macro_standing(&b, MACRO);
+    printf("standing %d %d %d\n", s.status, s.kept, s.present);
+}
+
+/* Of a new text a byte is lost. */
+static void run_macros(void)
+{
+    const uint8_t macro = MACRO;
+    begin();
+    define("OLD", NONE);
+    use();
+    define("NEW", 6);
+    use();
+    print_text(&macro, 1);
+    standing();
+}
+
+/* A paragraph of issue 16 is not used in issue 17. */
+static void run_issues(void)
+{
+    begin();
+    answered(prambow_bulletin_issue(&b, 16, wire, sizeof wire));
+    define("GALE", NONE);
+    use();
+    answered(prambow_bulletin_issue(&b, 17, wire, sizeof wire));
+    use();
+    standing();
+    print_text((const uint8_t *)"CALM", 4);
+    define("CALM", NONE);
+    use();
+    standing();
 }
 
 int main(void)
 {
     run_tape();
     run_macros();
+    run_issues();
     return 0;
 }

@@ -1,5 +1,5 @@
 // A host of both ends in Rust. First a tape from standard input on a printer end, with the lines that `replay` prints. Then the
-// macro session of session.c, in which each end is given what the other sends.
+// two sessions of session.c, in which each end is given what the other sends.
 #[path = "../../include/prambow.rs"]
 mod prambow;
 use prambow::{Bulletin, Outcome, Printer, BM, CHAR, ENABLE_OURS, PAPER_ROOM, WIRE_ROOM};
@@ -92,22 +92,59 @@ impl Host {
     fn use_macro(&mut self) {
         let o = self.bulletin.use_macro(MACRO, &mut self.wire);
         self.answered(o);
+        self.read_line(true, None);
     }
 
-    fn run_macros(&mut self) {
+    fn print_text(&mut self, text: &[u8]) {
+        for b in text {
+            let o = self.bulletin.text_item(CHAR, *b, &mut self.wire);
+            self.answered(o);
+        }
+        self.read_line(true, None);
+    }
+
+    fn set_issue(&mut self, n: u16) {
+        let o = self.bulletin.issue(n, &mut self.wire);
+        self.answered(o);
+    }
+
+    fn standing(&self) {
+        let s = self.bulletin.macro_standing(MACRO);
+        println!("standing {} {} {}", s.status, s.kept, s.present);
+    }
+
+    // Both ends agree on BM.
+    fn begin(&mut self) {
         let o = self.bulletin.ask(BM, ENABLE_OURS, &mut self.wire);
         self.answered(o);
         self.read_line(true, None);
         self.read_line(false, None);
+    }
+
+    // Of a new text a byte is lost.
+    fn run_macros(&mut self) {
+        self.begin();
         self.define(b"OLD", None);
         self.use_macro();
-        self.read_line(true, None);
         self.define(b"NEW", Some(6));
         self.use_macro();
-        let o = self.bulletin.text_item(CHAR, MACRO, &mut self.wire);
-        self.answered(o);
-        self.read_line(true, None);
-        println!("status {}", self.bulletin.macro_status(MACRO));
+        self.print_text(&[MACRO]);
+        self.standing();
+    }
+
+    // A paragraph of issue 16 is not used in issue 17.
+    fn run_issues(&mut self) {
+        self.begin();
+        self.set_issue(16);
+        self.define(b"GALE", None);
+        self.use_macro();
+        self.set_issue(17);
+        self.use_macro();
+        self.standing();
+        self.print_text(b"CALM");
+        self.define(b"CALM", None);
+        self.use_macro();
+        self.standing();
     }
 }
 
@@ -116,4 +153,5 @@ fn main() {
     std::io::stdin().read_to_end(&mut tape).expect("a tape on standard input");
     Host::new().run_tape(&tape);
     Host::new().run_macros();
+    Host::new().run_issues();
 }

@@ -30,17 +30,13 @@ moved-as s BulletinSga q reply = refl
 moved-as s PrinterSga q reply = refl
 moved-as s Uncarried q reply = refl
 
-replies-reached : (s : BulletinState) (r : MacroReply) → ReachedIn s → ReachedIn (macroReplied s r .state)
-replies-reached s (Accept x) h = h
-replies-reached s (Refuse x) h = h
-replies-reached s (PleaseCancel x) h = h
-
 reached-steps : Steps ReachedIn
 reached-steps = record {
-  others = λ e f r. subst (Reached End.Bulletin) e r;
+  others = λ e f g r. subst (Reached End.Bulletin) e r;
   moves = λ s side q reply goes r. subst (Reached End.Bulletin) (moved-as s side q reply) (goes r);
-  replies = replies-reached;
+  replies = λ s r h. h;
   defines = λ s x t w n r. r;
+  issues = λ s n r. r;
 }
 
 pub stay-apart : StayApart

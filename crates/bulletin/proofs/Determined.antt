@@ -11,4 +11,5 @@ determined-to-the-byte p q wp wq cp cq e =
     let table = clean-determined (p .table) (q .table) (wp .table) (wq .table) (cp .table) (cq .table) (ap (λ v. v .table) e) in
     let values = ap (λ v. v .values) e in
     let waits = ap (λ v. v .waits) e in
-    λ i. record { sides = sides i; reader = reader i; table = table i; values = values i; waits = waits i }
+    let issues = ap (λ v. v .issues) e in
+    λ i. record { sides = sides i; reader = reader i; table = table i; values = values i; waits = waits i; issues = issues i }

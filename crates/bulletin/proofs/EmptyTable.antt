@@ -39,12 +39,13 @@ replies-empty s (Accept x) h = λ off. rw (h off) (same-entry x _ (rw (getD-unif
 replies-empty s (Refuse x) h = λ off. rw (h off) (same-entry x _ (rw (getD-uniform 256 x free)))
 replies-empty s (PleaseCancel x) h = λ off. rw (h off, getD-uniform 256 x free)
 
-empty-steps : Steps EmptyWhileOff
+pub empty-steps : Steps EmptyWhileOff
 empty-steps = record {
-  others = λ e f h off. sym f ∙ h (ap (λ x. isYes (x .bm)) e ∙ off);
+  others = λ e f g h off. sym f ∙ h (ap (λ x. isYes (x .bm)) e ∙ off);
   moves = λ s side q reply reached h. side-empty s side q reply h;
   replies = replies-empty;
   defines = λ s x t w n h off. absurd (false≢true (sym off ∙ not-false (bmInForce s) (n .1 .0)));
+  issues = λ s n h. h;
 }
 
 pub table-emptied : TableEmptied

@@ -12,4 +12,4 @@ pub fresh-clean : CleanBulletin freshCells
 fresh-clean = record { reader = idle-clean; table = free-clean }
 
 pub fresh-whole : WholeBulletin freshCells
-fresh-whole = record { body = refl; table = free-whole }
+fresh-whole = record { body = refl; table = free-whole; kept = refl }

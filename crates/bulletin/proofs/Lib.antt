@@ -1,3 +1,4 @@
+pub mod Walk
 pub mod LimitsBytes
 pub mod Limits
 pub mod Invariant

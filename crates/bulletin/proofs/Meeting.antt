@@ -11,9 +11,10 @@ use Rattle.disposition.specs.declared.Waits.{Waits}
 use Rattle.sent_macros.specs.declared.SendingTable.{SendingTable}
 use Rattle.sent_macros.specs.Sending.{Definitions}
 use Rattle.sent_macros.specs.Refinement.{RefinesTable}
+use Rattle.issues.specs.declared.Issues.{Issues}
 use Rattle.bulletin.specs.declared.Bulletin.{Bulletin}
-use Rattle.bulletin.specs.State.{BulletinState, withSides, withTable, withWaits, notes}
-use Rattle.bulletin.specs.Refinement.{viewBulletin, RefinesStepOnWire, RefinesStepUnwritten, RefinesState, stepOf, tableSet}
+use Rattle.bulletin.specs.State.{BulletinState, withSides, withMacros, withIssues, withWaits, notes}
+use Rattle.bulletin.specs.Refinement.{viewBulletin, RefinesStepOnWire, RefinesStepUnwritten, RefinesState, stepOf, macrosSet}
 
 pub met-same : {b : Bulletin} → RefinesState (viewBulletin b) b b
 met-same = record { view = refl; clean = λ k. k }
@@ -29,14 +30,19 @@ module _ (n : Note) {s : BulletinState} {b t : Bulletin} (state : RefinesState s
   met-unwritten = record { met = λ wire. met-step (wrote-none wire) }
 
 -- nothing but the sides changed
-pub met-sides : {b : Bulletin} (x : Sides) → RefinesState (withSides (viewBulletin b) x) b (record { sides = x; reader = b .reader; table = b .table; values = b .values; waits = b .waits })
+pub met-sides : {b : Bulletin} (x : Sides) → RefinesState (withSides (viewBulletin b) x) b (record { sides = x; reader = b .reader; table = b .table; values = b .values; waits = b .waits; issues = b .issues })
 met-sides x = record { view = refl; clean = λ k. record { reader = k .reader; table = k .table } }
 
--- .. the table
-pub met-table : {b : Bulletin} {t : SendingTable} {d : Definitions} {acts : Bool} → RefinesTable d acts (b .table) t → RefinesState (withTable (viewBulletin b) d) b (tableSet b t)
-met-table m = record { view = rw (m .view); clean = λ k. record { reader = k .reader; table = m .clean (k .table) } }
+-- .. the table and the issues
+pub met-macros : {b : Bulletin} {t : SendingTable} {d : Definitions} {acts : Bool} → RefinesTable d acts (b .table) t → (i : Issues)
+    → RefinesState (withMacros (viewBulletin b) d i) b (macrosSet b t i)
+met-macros m i = record { view = rw (m .view); clean = λ k. record { reader = k .reader; table = m .clean (k .table) } }
+
+pub met-issues : {b : Bulletin} (i : Issues)
+    → RefinesState (withIssues (viewBulletin b) i) b (record { sides = b .sides; reader = b .reader; table = b .table; values = b .values; waits = b .waits; issues = i })
+met-issues i = record { view = refl; clean = λ k. record { reader = k .reader; table = k .table } }
 
 -- .. the waits
 pub met-waits : {b : Bulletin} (x : Waits)
-    → RefinesState (withWaits (viewBulletin b) x) b (record { sides = b .sides; reader = b .reader; table = b .table; values = b .values; waits = x })
+    → RefinesState (withWaits (viewBulletin b) x) b (record { sides = b .sides; reader = b .reader; table = b .table; values = b .values; waits = x; issues = b .issues })
 met-waits x = record { view = refl; clean = λ k. record { reader = k .reader; table = k .table } }

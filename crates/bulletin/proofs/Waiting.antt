@@ -15,6 +15,7 @@ use Rattle.negotiation.specs.Table.{isYes}
 use Rattle.negotiation.specs.Carried.{moved, eachState, dispositionState, dispositionInForce}
 use Rattle.reader.specs.Reading.{ReaderState}
 use Rattle.sent_macros.specs.Sending.{Definitions}
+use Rattle.issues.specs.declared.Issues.{Issues}
 use Rattle.disposition.specs.declared.Values.{Values}
 use Rattle.disposition.specs.ByOption.{unspoken, eachValues, eachWait, valuesOf, withValuesOf, waitOf, withWaitOf}
 use Rattle.disposition.specs.Handled.{handling, handlingWhile, handlingIn}
@@ -32,9 +33,9 @@ pub record Rightly (s : BulletinState) (e : Effect) : Type 0 where
   pub ends : (d : Disposition) → waitOf (s .waits) d ≡ true → waitOf (e .state .waits) d ≡ false → EndsSo e d
 
 -- nothing that the waits turn on changes
-pub unmoved : {s : BulletinState} {n : Note} {host wire : List ℕ} {x : Sides} {r : ReaderState} {t : Definitions}
+pub unmoved : {s : BulletinState} {n : Note} {host wire : List ℕ} {x : Sides} {r : ReaderState} {t : Definitions} {i : Issues}
     → x .dispositions ≡ s .sides .dispositions
-    → Rightly s (record { note = n; host = host; wire = wire; state = record { sides = x; reader = r; table = t; values = s .values; waits = s .waits } })
+    → Rightly s (record { note = n; host = host; wire = wire; state = record { sides = x; reader = r; table = t; values = s .values; waits = s .waits; issues = i } })
 unmoved e = record { so = λ h d w. rw e (h d w); ends = λ d w n. absurd (true≢false (sym w ∙ n)) }
 
 -- an outcome waits only while the option is in force
@@ -54,7 +55,7 @@ module _ (s : BulletinState) (x : Sides) (d : Disposition) (v : Values)
   lasts = waitOf (s .waits) d && awaits (handling v)
 
   abbrev after : ReaderState → BulletinState
-  after r = record { sides = x; reader = r; table = s .table; values = withValuesOf (s .values) d v; waits = withWaitOf (s .waits) d lasts }
+  after r = record { sides = x; reader = r; table = s .table; values = withValuesOf (s .values) d v; waits = withWaitOf (s .waits) d lasts; issues = s .issues }
 
   own-wait : waitOf (withWaitOf (s .waits) d lasts) d ≡ lasts
   own-wait = entry-same (eachWait (s .waits)) lasts d

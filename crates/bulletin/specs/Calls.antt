@@ -7,7 +7,7 @@ use Rattle.codes.specs.Answers.{noRoom, noWire, Guard, refusedIf, guarded}
 use Rattle.codes.specs.Telnet.{RCTE, DS, IAC}
 use Rattle.codes.specs.Dispositions.{dispositionNumbered, ofDisposition, forEach}
 use Rattle.codes.specs.declared.Disposition.{Disposition}
-use Rattle.codes.specs.declared.Code.the-variants.{NoRoom, BadCommand, NotCarried, NotInForce, BadMacroByte, TooLong, Unanswered, NoText, BadValue, OutputWaits}
+use Rattle.codes.specs.declared.Code.the-variants.{NoRoom, BadCommand, NotCarried, NotInForce, BadMacroByte, TooLong, Unanswered, BadValue, OutputWaits}
 use Rattle.codes.specs.declared.Whose.{Whose}
 use Rattle.keys.specs.declared.Key.{Key}
 use Rattle.keys.specs.declared.Key.the-variants.{Char, Line, Command}
@@ -17,8 +17,8 @@ use Rattle.negotiation.specs.declared.End.{End}
 use Rattle.negotiation.specs.declared.Side.{Side}
 use Rattle.negotiation.specs.Carried.{replyBytes, dispositionInForce, askedSide, askedWhose, askedEnable, askingOf, askedBy}
 use Rattle.bodies.specs.RcteBodies.{setsBreaks, setsSends}
-use Rattle.sent_macros.specs.Sending.{Definitions, sentOf, isPending, isAccepted, isTooLong, defining, defineBytes, allDataBytes, acceptedText, statusOf}
-use Rattle.sent_macros.specs.declared.Status.{Status}
+use Rattle.sent_macros.specs.Sending.{Definitions, sentOf, isPending, isTooLong, defineBytes, allDataBytes, acceptedText, statusOf}
+use Rattle.issues.specs.Issues.{withPresent, keptOf, macroGuards}
 use Rattle.disposition.specs.declared.Waits.{Waits}
 use Rattle.disposition.specs.declared.Handlings.{Handlings}
 use Rattle.disposition.specs.ByOption.{withDs, valuesOf, waitOf, isWaiting, waitsFrom, handlingOf}
@@ -26,7 +26,8 @@ use Rattle.disposition.specs.Handled.{suggestion, suggestGuards, Report, report
 use Rattle.disposition.specs.ItemData.{itemData, takesPart, awaits}
 use Rattle.bulletin.specs.declared.Output.{Output}
 use Rattle.bulletin.specs.declared.Output.the-variants.{Ready, Waiting}
-use Rattle.bulletin.specs.State.{BulletinState, withTable, withValues, withWaits, rcteInForce, bmInForce, handlingsNow, definitionsNow, Effect, sends, CallEffect, done, refused}
+use Rattle.bulletin.specs.declared.Standing.{Standing}
+use Rattle.bulletin.specs.State.{BulletinState, withDefinition, withValues, withWaits, withIssues, rcteInForce, bmInForce, handlingsNow, definitionsNow, Effect, sends, nothing, CallEffect, done, refused}
 use Rattle.bulletin.specs.Network.{networkRead, sideMoved}
 
 unfoldable pub networkCall : BulletinState → ℕ → ℕ → ℕ → CallEffect
@@ -91,15 +92,14 @@ defineGuards s x t wire = defineGuardsBeforeSize s x wire ++ refusedIf (isTooLon
 unfoldable pub defineCall : BulletinState → ℕ → List ℕ → ℕ → CallEffect
 defineCall s x t wire =
     guarded (defineGuards s x t wire) (refused s)
-    (done (sends (defineBytes x t) (withTable s (defining (s .table) x t))))
+    (done (sends (defineBytes x t) (withDefinition s x t)))
 
 abbrev pub useGuards : BulletinState → ℕ → ℕ → List Guard
 useGuards s x wire =
     refusedIf (noWire wire) NoRoom
     ∷ refusedIf (not (bmInForce s)) NotInForce
     ∷ refusedIf (isWaiting (s .waits)) OutputWaits
-    ∷ refusedIf (not (isAccepted (sentOf (s .table) x))) NoText
-    ∷ []
+    ∷ macroGuards (s .table) (s .issues) x
 
 -- use of a macro: its byte goes out bare
 unfoldable pub useCall : BulletinState → ℕ → ℕ → CallEffect
@@ -134,10 +134,18 @@ textData s k = itemData (handlingsNow s) k
 unfoldable pub useData : BulletinState → ℕ → List ℕ
 useData s x = acceptedText (sentOf (s .table) x)
 
+-- another issue is in force; it writes nothing, and asks for a wire buffer all the same
+unfoldable pub issueCall : BulletinState → ℕ → ℕ → CallEffect
+issueCall s n wire = guarded (refusedIf (noWire wire) NoRoom ∷ []) (refused s) (done (nothing (withIssues s (withPresent (s .issues) n))))
+
 -- what a host may ask before it sends: how a macro byte stands, of each option about output disposition who handles its character
 -- and how, whether output waits
-abbrev pub macroStatus : BulletinState → ℕ → Status
-macroStatus s x = statusOf (sentOf (definitionsNow s) x)
+abbrev pub macroStanding : BulletinState → ℕ → Standing
+macroStanding s x = record {
+  status = statusOf (sentOf (definitionsNow s) x);
+  kept = cond (bmInForce s) (keptOf (s .issues) x) 0;
+  present = s .issues .present;
+}
 
 abbrev pub dispositionsReport : BulletinState → List Report
 dispositionsReport s = reportsOf (handlingsNow s)

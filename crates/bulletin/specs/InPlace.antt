@@ -89,6 +89,7 @@ inPlace p sides phase waits = record {
   table = p .table;
   values = p .values;
   waits = waits;
+  issues = p .issues;
 }
 
 -- an effect on parts, as that on the whole state

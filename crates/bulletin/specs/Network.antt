@@ -21,20 +21,23 @@ use Rattle.bodies.specs.declared.ReplyBody.{ReplyBody}
 use Rattle.bodies.specs.declared.ValueBody.{ValueBody}
 use Rattle.bodies.specs.MacroBodies.{replyBody}
 use Rattle.bodies.specs.ValueBodies.{valueBody}
-use Rattle.sent_macros.specs.Sending.{noDefinitions, sentOf, onAccept, onRefuse, cancelBytes, cancelled}
+use Rattle.sent_macros.specs.Sending.{Definitions, noDefinitions, sentOf, onAccept, onRefuse, cancelBytes, cancelled}
+use Rattle.issues.specs.Issues.{forgetting, keptAfter}
 use Rattle.disposition.specs.ByOption.{unspoken, withDr, valuesOf, noWaits}
 use Rattle.subnegotiation.specs.declared.Checked.{Checked}
 use Rattle.subnegotiation.specs.declared.Checked.the-variants.{Noted}
 use Rattle.subnegotiation.specs.Checks.{checked}
-use Rattle.bulletin.specs.State.{BulletinState, withSides, withReader, withTable, withValues, withWaits, Effect, sends, nothing, notes}
+use Rattle.bulletin.specs.State.{BulletinState, withSides, withReader, withMacros, withValues, withWaits, Effect, sends, nothing, notes}
 
 -- data goes to the host, and ends every wait
 unfoldable pub dataRead : BulletinState → ℕ → Effect
 dataRead s b = record { note = Clear; host = b ∷ []; wire = []; state = withWaits s noWaits }
 
--- a side's state changed: leaving YES empties BM's table, and forgets the two values of an option about output disposition
+-- a side's state changed: leaving YES empties BM's table with the issues that were kept, and forgets the two values of an option about
+-- output disposition
 abbrev pub sideState : BulletinState → Side → OptionState → BulletinState
-sideState s Macro q = withTable (withSides s (moved (s .sides) Macro q)) (cond (isYes q) (s .table) noDefinitions)
+sideState s Macro q =
+    withMacros (withSides s (moved (s .sides) Macro q)) (cond (isYes q) (s .table) noDefinitions) (cond (isYes q) (s .issues) (forgetting (s .issues)))
 sideState s (Disposes d) q = withValues (withSides s (moved (s .sides) (Disposes d) q)) d (cond (isYes q) (valuesOf (s .values) d) unspoken)
 sideState s Rcte q = withSides s (moved (s .sides) Rcte q)
 sideState s Echo q = withSides s (moved (s .sides) Echo q)
@@ -50,11 +53,20 @@ negotiationRead s v option =
     let t = heardBy End.Bulletin (s .sides) v option in
     sideMoved s (t .side) (t .next) (replyBytes (t .whose) (t .reply) option)
 
--- what the printer end says of a macro; an answer to PLEASE CANCEL is sent whether output waits or not
+-- what the printer end says of a macro: the table behind it, and the bytes that answer it
+abbrev pub tableAfter : Definitions → MacroReply → Definitions
+tableAfter t (Accept x) = set t x (onAccept (sentOf t x))
+tableAfter t (Refuse x) = set t x (onRefuse (sentOf t x))
+tableAfter t (PleaseCancel x) = cancelled t x
+
+abbrev pub bytesAfter : Definitions → MacroReply → List ℕ
+bytesAfter t (Accept x) = []
+bytesAfter t (Refuse x) = []
+bytesAfter t (PleaseCancel x) = cancelBytes t x
+
+-- an answer to PLEASE CANCEL is sent whether output waits or not
 abbrev pub macroReplied : BulletinState → MacroReply → Effect
-macroReplied s (Accept x) = nothing (withTable s (set (s .table) x (onAccept (sentOf (s .table) x))))
-macroReplied s (Refuse x) = nothing (withTable s (set (s .table) x (onRefuse (sentOf (s .table) x))))
-macroReplied s (PleaseCancel x) = sends (cancelBytes (s .table) x) (withTable s (cancelled (s .table) x))
+macroReplied s r = sends (bytesAfter (s .table) r) (withMacros s (tableAfter (s .table) r) (keptAfter (s .table) (s .issues) r))
 
 abbrev pub replyRead : BulletinState → ReplyBody → Effect
 replyRead s ReplyBody.Unreadable = notes Unreadable s

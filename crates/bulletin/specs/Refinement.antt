@@ -16,6 +16,8 @@ use Rattle.reader.specs.Reading.{bodyRoom}
 use Rattle.reader.specs.Refinement.{viewReader, CleanReader, idleCells}
 use Rattle.sent_macros.specs.declared.SendingTable.{SendingTable}
 use Rattle.sent_macros.specs.Refinement.{viewTable, CleanTable, WholeTable, freeCells}
+use Rattle.issues.specs.declared.Issues.{Issues}
+use Rattle.issues.specs.Issues.{firstIssue}
 use Rattle.disposition.specs.ByOption.{allUnspoken, noWaits}
 use Rattle.bulletin.specs.declared.Bulletin.{Bulletin}
 use Rattle.bulletin.specs.declared.Step.{Step}
@@ -24,7 +26,14 @@ use Rattle.bulletin.specs.State.{BulletinState, Effect, CallEffect}
 use Rattle.bulletin.specs.Network.{itemRead}
 
 abbrev pub viewBulletin : Bulletin → BulletinState
-viewBulletin b = record { sides = b .sides; reader = viewReader (b .reader); table = viewTable (b .table); values = b .values; waits = b .waits }
+viewBulletin b = record {
+  sides = b .sides;
+  reader = viewReader (b .reader);
+  table = viewTable (b .table);
+  values = b .values;
+  waits = b .waits;
+  issues = b .issues;
+}
 
 pub record CleanBulletin (b : Bulletin) : Type 0 where
   pub reader : CleanReader (b .reader)
@@ -34,6 +43,7 @@ pub record CleanBulletin (b : Bulletin) : Type 0 where
 pub record WholeBulletin (b : Bulletin) : Type 0 where
   pub body : length (b .reader .body) ≡ bodyRoom
   pub table : WholeTable (b .table)
+  pub kept : length (b .issues .kept) ≡ 256
 
 -- a step of the code does what the rule says: its data for the host, its wire bytes, every byte of the two lent buffers, the
 -- new state; and nothing is left behind in cells that are no longer used
@@ -90,10 +100,10 @@ stepOf n wire b = record { note = n; host = 0; wire = wire; state = b }
 
 -- the sides of the code's state after one of them moved
 abbrev pub sidesMoved : Bulletin → Side → OptionState → Bulletin
-sidesMoved b side q = record { sides = moved (b .sides) side q; reader = b .reader; table = b .table; values = b .values; waits = b .waits }
+sidesMoved b side q = record { sides = moved (b .sides) side q; reader = b .reader; table = b .table; values = b .values; waits = b .waits; issues = b .issues }
 
-abbrev pub tableSet : Bulletin → SendingTable → Bulletin
-tableSet b t = record { sides = b .sides; reader = b .reader; table = t; values = b .values; waits = b .waits }
+abbrev pub macrosSet : Bulletin → SendingTable → Issues → Bulletin
+macrosSet b t i = record { sides = b .sides; reader = b .reader; table = t; values = b .values; waits = b .waits; issues = i }
 
 -- the state that a step leaves
 pub record RefinesState (s : BulletinState) (b r : Bulletin) : Type 0 where
@@ -106,4 +116,4 @@ bodyEndRead s = itemRead s BodyEnd
 
 -- the bulletin end at first, as the code makes it
 abbrev pub freshCells : Bulletin
-freshCells = record { sides = allNo; reader = idleCells; table = freeCells; values = allUnspoken; waits = noWaits }
+freshCells = record { sides = allNo; reader = idleCells; table = freeCells; values = allUnspoken; waits = noWaits; issues = firstIssue }

@@ -3,7 +3,7 @@ use mathlib.Core.List.{List, [], _∷_}
 use Prim.Native.Nat.{ℕ}
 use Rattle.keys.specs.declared.Key.{Key}
 use Rattle.bulletin.specs.State.{BulletinState, fresh, CallEffect}
-use Rattle.bulletin.specs.Calls.{networkCall, askCall, suggestCall, orderCall, defineCall, useCall, textCall}
+use Rattle.bulletin.specs.Calls.{networkCall, askCall, suggestCall, orderCall, defineCall, useCall, textCall, issueCall}
 
 -- the lent buffers' sizes are a call's last arguments: of network the host's data and the wire, of the others the wire
 pub data Call : Type 0 where
@@ -14,6 +14,7 @@ pub data Call : Type 0 where
   define : (byte : ℕ) → List ℕ → (wire : ℕ) → Call
   useMacro : (byte wire : ℕ) → Call
   text : Key → (wire : ℕ) → Call
+  issue : (number wire : ℕ) → Call
 
 unfoldable pub called : BulletinState → Call → CallEffect
 called s (network b h w) = networkCall s b h w
@@ -23,6 +24,7 @@ called s (order c bc tc w) = orderCall s c bc tc w
 called s (define x t w) = defineCall s x t w
 called s (useMacro x w) = useCall s x w
 called s (text k w) = textCall s k w
+called s (issue n w) = issueCall s n w
 
 unfoldable pub answersFrom : BulletinState → List Call → List CallEffect
 answersFrom s [] = []

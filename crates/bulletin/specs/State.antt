@@ -11,7 +11,9 @@ use Rattle.negotiation.specs.declared.Sides.{Sides}
 use Rattle.negotiation.specs.Table.{isYes}
 use Rattle.negotiation.specs.Carried.{allNo}
 use Rattle.reader.specs.Reading.{ReaderState, idle}
-use Rattle.sent_macros.specs.Sending.{Definitions, noDefinitions}
+use Rattle.sent_macros.specs.Sending.{Definitions, noDefinitions, defining}
+use Rattle.issues.specs.declared.Issues.{Issues}
+use Rattle.issues.specs.Issues.{firstIssue, keeping}
 use Rattle.disposition.specs.declared.Values.{Values}
 use Rattle.disposition.specs.declared.AllValues.{AllValues}
 use Rattle.disposition.specs.declared.Waits.{Waits}
@@ -20,28 +22,37 @@ use Rattle.disposition.specs.ByOption.{allUnspoken, withValuesOf, noWaits, wait
 use Rattle.disposition.specs.Handled.{handling, handlingsIn}
 use Rattle.disposition.specs.ItemData.{awaits}
 
--- waits: for which options output waits (254)
+-- waits: for which options output waits (254); issues: the forecast issue, and the one that each definition kept
 pub record BulletinState : Type 0 where
   pub sides : Sides
   pub reader : ReaderState
   pub table : Definitions
   pub values : AllValues
   pub waits : Waits
+  pub issues : Issues
 
 abbrev pub fresh : BulletinState
-fresh = record { sides = allNo; reader = idle; table = noDefinitions; values = allUnspoken; waits = noWaits }
+fresh = record { sides = allNo; reader = idle; table = noDefinitions; values = allUnspoken; waits = noWaits; issues = firstIssue }
 
 abbrev pub withSides : BulletinState → Sides → BulletinState
-withSides s x = record { sides = x; reader = s .reader; table = s .table; values = s .values; waits = s .waits }
+withSides s x = record { sides = x; reader = s .reader; table = s .table; values = s .values; waits = s .waits; issues = s .issues }
 
 abbrev pub withReader : BulletinState → ReaderState → BulletinState
-withReader s x = record { sides = s .sides; reader = x; table = s .table; values = s .values; waits = s .waits }
+withReader s x = record { sides = s .sides; reader = x; table = s .table; values = s .values; waits = s .waits; issues = s .issues }
 
-abbrev pub withTable : BulletinState → Definitions → BulletinState
-withTable s x = record { sides = s .sides; reader = s .reader; table = x; values = s .values; waits = s .waits }
+-- what is defined, and the issues
+abbrev pub withMacros : BulletinState → Definitions → Issues → BulletinState
+withMacros s x i = record { sides = s .sides; reader = s .reader; table = x; values = s .values; waits = s .waits; issues = i }
+
+abbrev pub withIssues : BulletinState → Issues → BulletinState
+withIssues s i = withMacros s (s .table) i
+
+-- a definition keeps the issue in force when it is made
+abbrev pub withDefinition : BulletinState → ℕ → List ℕ → BulletinState
+withDefinition s x t = withMacros s (defining (s .table) x t) (keeping (s .issues) x)
 
 abbrev pub withWaits : BulletinState → Waits → BulletinState
-withWaits s x = record { sides = s .sides; reader = s .reader; table = s .table; values = s .values; waits = x }
+withWaits s x = record { sides = s .sides; reader = s .reader; table = s .table; values = s .values; waits = x; issues = s .issues }
 
 -- the values of one option; its wait, and no other, lasts while its outcome stays the sender's 254
 abbrev pub withValues : BulletinState → Disposition → Values → BulletinState
@@ -51,6 +62,7 @@ withValues s d x = record {
   table = s .table;
   values = withValuesOf (s .values) d x;
   waits = withWaitOf (s .waits) d (waitOf (s .waits) d && awaits (handling x));
+  issues = s .issues;
 }
 
 -- in force means YES

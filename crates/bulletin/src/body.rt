@@ -36,20 +36,21 @@ fn macro_replied(s: Bulletin, reply: MacroReply, wire: &mut [u8]) -> Step
     ensures { λ r. ⌜ RefinesStepOnWire (macroReplied (viewBulletin s) reply) s (lent wire) r ⌝ }
 {
     let old = s.table;
+    let issues = issues::kept_after(&s.table.statuses, s.issues, reply);
     match reply {
         MacroReply::Accept(x) => {
             let table = sent_macros::accepted(old, x);
-            moves::step(moves::with_table(s, table), Note::Clear, 0)
+            moves::step(moves::with_macros(s, table, issues), Note::Clear, 0)
         }
         MacroReply::Refuse(x) => {
             let table = sent_macros::refused(old, x);
-            moves::step(moves::with_table(s, table), Note::Clear, 0)
+            moves::step(moves::with_macros(s, table, issues), Note::Clear, 0)
         }
         MacroReply::PleaseCancel(x) => {
             let c = sent_macros::cancel(old, x, wire);
             let n = c.wire;
             let table = c.table;
-            moves::step(moves::with_table(s, table), Note::Clear, n)
+            moves::step(moves::with_macros(s, table, issues), Note::Clear, n)
         }
     }
 }

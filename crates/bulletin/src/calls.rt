@@ -17,7 +17,8 @@ ghost use Rattle.bulletin.specs.Calls.{
   useCall,
   textGuards,
   textCall,
-  macroStatus,
+  issueCall,
+  macroStanding,
   dispositionsReport,
   outputNow,
 };
@@ -28,6 +29,7 @@ use crate::Answer;
 use crate::Bulletin;
 use crate::Output;
 use crate::RunAnswer;
+use crate::Standing;
 use crate::Step;
 use crate::items;
 use crate::moves;
@@ -53,12 +55,14 @@ pub fn fresh() -> Bulletin
     let table = sent_macros::none();
     let values = disposition::all_unspoken();
     let waits = disposition::no_waits();
+    let issues = issues::first();
     Bulletin {
         sides,
         reader,
         table,
         values,
         waits,
+        issues,
     }
 }
 
@@ -235,7 +239,8 @@ pub fn define(s: Bulletin, x: u8, text: &[u8], wire: &mut [u8]) -> Answer
     }
     let n = d.wire;
     let table = d.table;
-    let t = moves::with_table(s, table);
+    let issues = issues::keep(s.issues, x);
+    let t = moves::with_macros(s, table, issues);
     let step = moves::step(t, Note::Clear, n);
     done(step)
 }
@@ -255,11 +260,7 @@ fn use_refusal(s: Bulletin, x: u8, wire: usize) -> Code
     if disposition::is_waiting(waits) {
         return Code::OutputWaits;
     }
-    if sent_macros::is_accepted(&s.table.statuses, x) {
-        Code::Done
-    } else {
-        Code::NoText
-    }
+    issues::use_refusal(&s.table.statuses, s.issues, x)
 }
 
 // An accepted macro, by its byte.
@@ -309,15 +310,38 @@ pub fn text_item(s: Bulletin, k: Key, wire: &mut [u8]) -> Answer
     done(step)
 }
 
-// How the last DEFINE of a byte stands; with BM not in force every byte is free.
-pub fn macro_status(s: Bulletin, x: u8) -> Status
-    ensures { λ r. ⌜ r ≡ macroStatus (viewBulletin s) x ⌝ }
+// The forecast issue is another from now on.
+pub fn issue(s: Bulletin, n: u16, wire: &mut [u8]) -> Answer
+    ensures { λ r. ⌜ RefinesAnswerOnWire (issueCall (viewBulletin s) n) s (lent wire) r ⌝ }
+{
+    if codes::no_wire(wire.len()) {
+        return refused(s, Code::NoRoom);
+    }
+    let issues = issues::with_present(s.issues, n);
+    let mut t = s;
+    t.issues = issues;
+    let step = moves::step(t, Note::Clear, 0);
+    done(step)
+}
+
+// How the last DEFINE of a byte stands, and the issue that it kept; with BM not in force every byte is free.
+pub fn macro_standing(s: Bulletin, x: u8) -> Standing
+    ensures { λ r. ⌜ r ≡ macroStanding (viewBulletin s) x ⌝ }
 {
     let sides = s.sides;
+    let issues = s.issues;
     if negotiation::macros_in_force(End::Bulletin, sides) {
-        return sent_macros::status_at(&s.table.statuses, x);
+        return Standing {
+            status: sent_macros::status_at(&s.table.statuses, x),
+            kept: issues::kept_of(issues, x),
+            present: issues.present,
+        };
     }
-    Status::Free
+    Standing {
+        status: Status::Free,
+        kept: 0,
+        present: issues.present,
+    }
 }
 
 // Of each option about output disposition who handles its character, and how.

@@ -5,7 +5,7 @@ ghost use Rattle.negotiation.specs.Carried.{replyBytes};
 ghost use Rattle.bulletin.specs.State.{withValues};
 ghost use Rattle.bulletin.specs.Network.{sideState, sideMoved, negotiationRead};
 ghost use Rattle.negotiation.specs.declared.Side.the-variants.{Macro, Disposes};
-ghost use Rattle.bulletin.specs.Refinement.{viewBulletin, RefinesStepOnWire, RefinesState, stepOf, sidesMoved, tableSet};
+ghost use Rattle.bulletin.specs.Refinement.{viewBulletin, RefinesStepOnWire, RefinesState, stepOf, sidesMoved, macrosSet};
 use crate::Bulletin;
 use crate::Step;
 use codes::Disposition;
@@ -13,6 +13,7 @@ use codes::Note;
 use codes::Verb;
 use codes::Whose;
 use disposition::Values;
+use issues::Issues;
 use negotiation::End;
 use negotiation::OptionState;
 use negotiation::Reply;
@@ -31,11 +32,12 @@ pub fn step(s: Bulletin, note: Note, wire: usize) -> Step
     }
 }
 
-pub fn with_table(s: Bulletin, table: SendingTable) -> Bulletin
-    ensures { λ r. ⌜ r ≡ tableSet s table ⌝ }
+pub fn with_macros(s: Bulletin, table: SendingTable, issues: Issues) -> Bulletin
+    ensures { λ r. ⌜ r ≡ macrosSet s table issues ⌝ }
 {
     let mut t = s;
     t.table = table;
+    t.issues = issues;
     t
 }
 
@@ -55,7 +57,7 @@ pub fn with_values(s: Bulletin, d: Disposition, values: Values) -> Bulletin
     t
 }
 
-// Leaving YES empties BM's table.
+// Leaving YES empties BM's table, with the issues that were kept.
 fn macro_moved(s: Bulletin, q: OptionState) -> Bulletin
     ensures { λ r. ⌜ RefinesState (sideState (viewBulletin s) Macro q) s r ⌝ }
 {
@@ -67,8 +69,8 @@ fn macro_moved(s: Bulletin, q: OptionState) -> Bulletin
         return t;
     }
     let empty = sent_macros::none();
-    t.table = empty;
-    t
+    let kept = s.issues;
+    with_macros(t, empty, issues::forget(kept))
 }
 
 // .. and forgets the values of an option about output disposition.

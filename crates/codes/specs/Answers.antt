@@ -4,7 +4,7 @@ use mathlib.Core.List.{List, [], _∷_}
 use Prim.Native.Nat.{ℕ}
 use lib.Dec.{ltb, eqb}
 use Rattle.codes.specs.declared.Code.{Code}
-use Rattle.codes.specs.declared.Code.the-variants.{Done, NoRoom, QueueFull, BadCommand, NotCarried, AlreadySo, NotInForce, BadMacroByte, TooLong, Unanswered, NoText, EchoAgainstRcte, BadValue, OutputWaits}
+use Rattle.codes.specs.declared.Code.the-variants.{Done, NoRoom, QueueFull, BadCommand, NotCarried, AlreadySo, NotInForce, BadMacroByte, TooLong, Unanswered, NoText, EchoAgainstRcte, BadValue, OutputWaits, IssueDiffers}
 use Rattle.codes.specs.declared.Note.{Note}
 use Rattle.codes.specs.declared.Note.the-variants.{Clear, Unreadable, Inactive, OtherOption, Stray}
 
@@ -23,6 +23,7 @@ codeNumber NoText = 10
 codeNumber EchoAgainstRcte = 11
 codeNumber BadValue = 12
 codeNumber OutputWaits = 13
+codeNumber IssueDiffers = 14
 
 abbrev pub noteNumber : Note → ℕ
 noteNumber Clear = 0

@@ -90,6 +90,7 @@ pub enum Code {
     EchoAgainstRcte,
     BadValue,
     OutputWaits,
+    IssueDiffers,
 }
 
 // What a network byte's answer says of a body or a command that was not acted on.
@@ -148,6 +149,7 @@ pub fn code_number(c: Code) -> u8
         Code::EchoAgainstRcte => 11,
         Code::BadValue => 12,
         Code::OutputWaits => 13,
+        Code::IssueDiffers => 14,
     }
 }
 

@@ -10,6 +10,7 @@ use Rattle.sent_macros.specs.Sending.{statusNumber}
 use Rattle.printer.specs.State as P
 use Rattle.printer.specs.Calls as PC
 use Rattle.printer.specs.Session as PS
+use Rattle.bulletin.specs.declared.Standing.{Standing}
 use Rattle.bulletin.specs.State as B
 use Rattle.bulletin.specs.Calls as BC
 use Rattle.bulletin.specs.Session as BS
@@ -38,6 +39,10 @@ shownBulletin a = show (codeNumber (a .code)) (noteNumber (a .effect .note)) (a 
 abbrev reportNumbers : List Report → List ℕ
 reportNumbers rs = flatMap (λ r. r .who ∷ r .value ∷ []) rs
 
+-- .. and how a macro byte stands: its status, the issue that its definition kept, the issue in force
+abbrev standingNumbers : Standing → List ℕ
+standingNumbers s = statusNumber (s .status) ∷ s .kept ∷ s .present ∷ []
+
 -- what a list has: a call, or a question about the state that the last call left
 pub data PrinterLine : Type 0 where
   call : PS.Call → PrinterLine
@@ -57,7 +62,7 @@ pub data BulletinLine : Type 0 where
 unfoldable pub bulletinLines : B.BulletinState → List BulletinLine → List Shown
 bulletinLines s [] = []
 bulletinLines s (BulletinLine.call c ∷ ls) = let a = BS.called s c in shownBulletin a ∷ bulletinLines (a .effect .state) ls
-bulletinLines s (BulletinLine.status x ∷ ls) = told (statusNumber (BC.macroStatus s x) ∷ []) ∷ bulletinLines s ls
+bulletinLines s (BulletinLine.status x ∷ ls) = told (standingNumbers (BC.macroStanding s x)) ∷ bulletinLines s ls
 bulletinLines s (BulletinLine.report ∷ ls) = told (reportNumbers (BC.dispositionsReport s)) ∷ bulletinLines s ls
 bulletinLines s (BulletinLine.output ∷ ls) = told (cond (isWaiting (s .waits)) 1 0 ∷ []) ∷ bulletinLines s ls
 

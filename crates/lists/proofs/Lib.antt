@@ -16,3 +16,4 @@ pub mod Paired
 pub mod Same
 pub mod Known
 pub mod Fronts
+pub mod Places

@@ -1,7 +1,7 @@
 // The bulletin end's calls on arrays that the host lends, as the printer end's. None asks anything of its caller.
 ghost use mathlib.Core.Path.{_≡_};
 ghost use Rattle.lists.specs.Buffers.{lent};
-ghost use Rattle.bulletin.specs.Calls.{networkCall, askCall, suggestCall, orderCall, defineCall, useCall, textCall};
+ghost use Rattle.bulletin.specs.Calls.{networkCall, askCall, suggestCall, orderCall, defineCall, useCall, textCall, issueCall};
 ghost use Rattle.bulletin.specs.Refinement.{freshCells, viewBulletin};
 ghost use Rattle.session_arrays.specs.Numbers.{keyOfPair};
 ghost use Rattle.session_arrays.specs.BulletinArrays.{
@@ -12,7 +12,7 @@ ghost use Rattle.session_arrays.specs.BulletinArrays.{
   RefinesOnBulletinArraysWire,
   ReportsBulletin,
   SaysOutput,
-  SaysStatus,
+  SaysStanding,
 };
 ghost use Rattle.bulletin.specs.NetworkRun.{networkRun};
 ghost use Rattle.session_arrays.specs.BulletinRuns.{RefinesRunOnBulletinArrays};
@@ -25,6 +25,7 @@ use received_macros::ROOM;
 use session_arrays::Outcome;
 use session_arrays::Reported;
 use session_arrays::RunOutcome;
+use session_arrays::StandingNumbers;
 use session_arrays::bulletin_arrays;
 use session_arrays::bulletin_runs;
 use session_arrays::numbers;
@@ -37,11 +38,13 @@ pub extern "C" fn prambow_bulletin_fresh_arrays(
     statuses: &mut [u8; 256],
     marks: &mut [u16; 256],
     cells: &mut [u8; ROOM],
+    issue: &mut [u16; 1],
+    kept: &mut [u16; 256],
 )
-    ensures { λ r. ⌜ lentBulletin small counts body statuses marks cells .after ≡ encodedBulletin freshCells ⌝ }
+    ensures { λ r. ⌜ lentBulletin small counts body statuses marks cells issue kept .after ≡ encodedBulletin freshCells ⌝ }
 {
     let s = calls::fresh();
-    bulletin_arrays::store(s, small, counts, body, statuses, marks, cells);
+    bulletin_arrays::store(s, small, counts, body, statuses, marks, cells, issue, kept);
 }
 
 #[no_mangle]
@@ -52,15 +55,17 @@ pub extern "C" fn prambow_bulletin_network_byte_arrays(
     statuses: &mut [u8; 256],
     marks: &mut [u16; 256],
     cells: &mut [u8; ROOM],
+    issue: &mut [u16; 1],
+    kept: &mut [u16; 256],
     b: u8,
     host: &mut [u8],
     wire: &mut [u8],
 ) -> Outcome
-    ensures { λ r. ⌜ RefinesOnBulletinArrays (λ t. networkCall t b) (lentBulletin small counts body statuses marks cells) (lent host) (lent wire) r ⌝ }
+    ensures { λ r. ⌜ RefinesOnBulletinArrays (λ t. networkCall t b) (lentBulletin small counts body statuses marks cells issue kept) (lent host) (lent wire) r ⌝ }
 {
-    let s = bulletin_arrays::decoded(small, counts, body, statuses, marks, cells);
+    let s = bulletin_arrays::decoded(small, counts, body, statuses, marks, cells, issue, kept);
     let a = calls::network_byte(s, b, host, wire);
-    bulletin_arrays::kept(a, small, counts, body, statuses, marks, cells)
+    bulletin_arrays::kept(a, small, counts, body, statuses, marks, cells, issue, kept)
 }
 
 // Network bytes one after the other, as `bulletin::calls::network_bytes` reads them. Stops before one that would be refused, and
@@ -73,11 +78,13 @@ pub extern "C" fn prambow_bulletin_network_bytes_arrays(
     statuses: &mut [u8; 256],
     marks: &mut [u16; 256],
     cells: &mut [u8; ROOM],
+    issue: &mut [u16; 1],
+    kept: &mut [u16; 256],
     bytes: &[u8],
     host: &mut [u8],
     wire: &mut [u8],
 ) -> RunOutcome
-    ensures { λ r. ⌜ RefinesRunOnBulletinArrays (networkRun (viewBulletin (decodedBulletin (lentBulletin small counts body statuses marks cells .before))) (now (bytes .entry))) (lentBulletin small counts body statuses marks cells) (lent host) (lent wire) r ⌝ }
+    ensures { λ r. ⌜ RefinesRunOnBulletinArrays (networkRun (viewBulletin (decodedBulletin (lentBulletin small counts body statuses marks cells issue kept .before))) (now (bytes .entry))) (lentBulletin small counts body statuses marks cells issue kept) (lent host) (lent wire) r ⌝ }
 {
     if reader::cannot_begin(bytes.len(), host.len(), wire.len()) {
         return numbers::run_outcome(Code::NoRoom, Note::Clear, 0, 0, 0);
@@ -96,6 +103,8 @@ pub extern "C" fn prambow_bulletin_network_bytes_arrays(
         statuses,
         marks,
         cells,
+        issue,
+        kept,
         bytes,
         host,
         wire,
@@ -110,15 +119,17 @@ pub extern "C" fn prambow_bulletin_ask_arrays(
     statuses: &mut [u8; 256],
     marks: &mut [u16; 256],
     cells: &mut [u8; ROOM],
+    issue: &mut [u16; 1],
+    kept: &mut [u16; 256],
     option: u8,
     way: u8,
     wire: &mut [u8],
 ) -> Outcome
-    ensures { λ r. ⌜ RefinesOnBulletinArraysWire (λ t. askCall t option way) (lentBulletin small counts body statuses marks cells) (lent wire) r ⌝ }
+    ensures { λ r. ⌜ RefinesOnBulletinArraysWire (λ t. askCall t option way) (lentBulletin small counts body statuses marks cells issue kept) (lent wire) r ⌝ }
 {
-    let s = bulletin_arrays::decoded(small, counts, body, statuses, marks, cells);
+    let s = bulletin_arrays::decoded(small, counts, body, statuses, marks, cells, issue, kept);
     let a = calls::ask(s, option, way, wire);
-    bulletin_arrays::kept(a, small, counts, body, statuses, marks, cells)
+    bulletin_arrays::kept(a, small, counts, body, statuses, marks, cells, issue, kept)
 }
 
 #[no_mangle]
@@ -129,15 +140,17 @@ pub extern "C" fn prambow_bulletin_suggest_arrays(
     statuses: &mut [u8; 256],
     marks: &mut [u16; 256],
     cells: &mut [u8; ROOM],
+    issue: &mut [u16; 1],
+    kept: &mut [u16; 256],
     option: u8,
     v: u8,
     wire: &mut [u8],
 ) -> Outcome
-    ensures { λ r. ⌜ RefinesOnBulletinArraysWire (λ t. suggestCall t option v) (lentBulletin small counts body statuses marks cells) (lent wire) r ⌝ }
+    ensures { λ r. ⌜ RefinesOnBulletinArraysWire (λ t. suggestCall t option v) (lentBulletin small counts body statuses marks cells issue kept) (lent wire) r ⌝ }
 {
-    let s = bulletin_arrays::decoded(small, counts, body, statuses, marks, cells);
+    let s = bulletin_arrays::decoded(small, counts, body, statuses, marks, cells, issue, kept);
     let a = calls::suggest(s, option, v, wire);
-    bulletin_arrays::kept(a, small, counts, body, statuses, marks, cells)
+    bulletin_arrays::kept(a, small, counts, body, statuses, marks, cells, issue, kept)
 }
 
 #[no_mangle]
@@ -148,16 +161,18 @@ pub extern "C" fn prambow_bulletin_order_arrays(
     statuses: &mut [u8; 256],
     marks: &mut [u16; 256],
     cells: &mut [u8; ROOM],
+    issue: &mut [u16; 1],
+    kept: &mut [u16; 256],
     cmd: u8,
     breaks: u16,
     sends: u16,
     wire: &mut [u8],
 ) -> Outcome
-    ensures { λ r. ⌜ RefinesOnBulletinArraysWire (λ t. orderCall t cmd breaks sends) (lentBulletin small counts body statuses marks cells) (lent wire) r ⌝ }
+    ensures { λ r. ⌜ RefinesOnBulletinArraysWire (λ t. orderCall t cmd breaks sends) (lentBulletin small counts body statuses marks cells issue kept) (lent wire) r ⌝ }
 {
-    let s = bulletin_arrays::decoded(small, counts, body, statuses, marks, cells);
+    let s = bulletin_arrays::decoded(small, counts, body, statuses, marks, cells, issue, kept);
     let a = calls::order(s, cmd, breaks, sends, wire);
-    bulletin_arrays::kept(a, small, counts, body, statuses, marks, cells)
+    bulletin_arrays::kept(a, small, counts, body, statuses, marks, cells, issue, kept)
 }
 
 #[no_mangle]
@@ -168,15 +183,17 @@ pub extern "C" fn prambow_bulletin_define_arrays(
     statuses: &mut [u8; 256],
     marks: &mut [u16; 256],
     cells: &mut [u8; ROOM],
+    issue: &mut [u16; 1],
+    kept: &mut [u16; 256],
     x: u8,
     text: &[u8],
     wire: &mut [u8],
 ) -> Outcome
-    ensures { λ r. ⌜ RefinesOnBulletinArraysWire (λ t. defineCall t x (now (text .entry))) (lentBulletin small counts body statuses marks cells) (lent wire) r ⌝ }
+    ensures { λ r. ⌜ RefinesOnBulletinArraysWire (λ t. defineCall t x (now (text .entry))) (lentBulletin small counts body statuses marks cells issue kept) (lent wire) r ⌝ }
 {
-    let s = bulletin_arrays::decoded(small, counts, body, statuses, marks, cells);
+    let s = bulletin_arrays::decoded(small, counts, body, statuses, marks, cells, issue, kept);
     let a = calls::define(s, x, text, wire);
-    bulletin_arrays::kept(a, small, counts, body, statuses, marks, cells)
+    bulletin_arrays::kept(a, small, counts, body, statuses, marks, cells, issue, kept)
 }
 
 #[no_mangle]
@@ -187,14 +204,16 @@ pub extern "C" fn prambow_bulletin_use_macro_arrays(
     statuses: &mut [u8; 256],
     marks: &mut [u16; 256],
     cells: &mut [u8; ROOM],
+    issue: &mut [u16; 1],
+    kept: &mut [u16; 256],
     x: u8,
     wire: &mut [u8],
 ) -> Outcome
-    ensures { λ r. ⌜ RefinesOnBulletinArraysWire (λ t. useCall t x) (lentBulletin small counts body statuses marks cells) (lent wire) r ⌝ }
+    ensures { λ r. ⌜ RefinesOnBulletinArraysWire (λ t. useCall t x) (lentBulletin small counts body statuses marks cells issue kept) (lent wire) r ⌝ }
 {
-    let s = bulletin_arrays::decoded(small, counts, body, statuses, marks, cells);
+    let s = bulletin_arrays::decoded(small, counts, body, statuses, marks, cells, issue, kept);
     let a = calls::use_macro(s, x, wire);
-    bulletin_arrays::kept(a, small, counts, body, statuses, marks, cells)
+    bulletin_arrays::kept(a, small, counts, body, statuses, marks, cells, issue, kept)
 }
 
 // The item is a pair of numbers, as a key; one that stands for none is refused with code 3.
@@ -206,33 +225,66 @@ pub extern "C" fn prambow_bulletin_text_item_arrays(
     statuses: &mut [u8; 256],
     marks: &mut [u16; 256],
     cells: &mut [u8; ROOM],
+    issue: &mut [u16; 1],
+    kept: &mut [u16; 256],
     kind: u8,
     b: u8,
     wire: &mut [u8],
 ) -> Outcome
-    ensures { λ r. ⌜ RefinesOnBulletinArraysWire (λ t. textCall t (keyOfPair kind b)) (lentBulletin small counts body statuses marks cells) (lent wire) r ⌝ }
+    ensures { λ r. ⌜ RefinesOnBulletinArraysWire (λ t. textCall t (keyOfPair kind b)) (lentBulletin small counts body statuses marks cells issue kept) (lent wire) r ⌝ }
 {
-    let s = bulletin_arrays::decoded(small, counts, body, statuses, marks, cells);
+    let s = bulletin_arrays::decoded(small, counts, body, statuses, marks, cells, issue, kept);
     let k = numbers::key_of_pair(kind, b);
     let a = calls::text_item(s, k, wire);
-    bulletin_arrays::kept(a, small, counts, body, statuses, marks, cells)
+    bulletin_arrays::kept(a, small, counts, body, statuses, marks, cells, issue, kept)
 }
 
-// How the last DEFINE of a byte stands. It looks at BM's state and the statuses alone.
 #[no_mangle]
-pub extern "C" fn prambow_bulletin_macro_status_arrays(
+pub extern "C" fn prambow_bulletin_issue_arrays(
+    small: &mut [u8; 23],
+    counts: &mut [usize; 1],
+    body: &mut [u8; BODY_ROOM],
+    statuses: &mut [u8; 256],
+    marks: &mut [u16; 256],
+    cells: &mut [u8; ROOM],
+    issue: &mut [u16; 1],
+    kept: &mut [u16; 256],
+    n: u16,
+    wire: &mut [u8],
+) -> Outcome
+    ensures { λ r. ⌜ RefinesOnBulletinArraysWire (λ t. issueCall t n) (lentBulletin small counts body statuses marks cells issue kept) (lent wire) r ⌝ }
+{
+    let s = bulletin_arrays::decoded(small, counts, body, statuses, marks, cells, issue, kept);
+    let a = calls::issue(s, n, wire);
+    bulletin_arrays::kept(a, small, counts, body, statuses, marks, cells, issue, kept)
+}
+
+// How the last DEFINE of a byte stands, and the issue that it kept. It looks at BM's state, the statuses and the issues alone.
+#[no_mangle]
+pub extern "C" fn prambow_bulletin_macro_standing_arrays(
     small: &[u8; 23],
     statuses: &[u8; 256],
+    issue: &[u16; 1],
+    kept: &[u16; 256],
     x: u8,
-) -> u8
-    ensures { λ r. ⌜ SaysStatus x (now (small .entry)) (now (statuses .entry)) r ⌝ }
+) -> StandingNumbers
+    ensures { λ r. ⌜ SaysStanding x (now (small .entry)) (now (statuses .entry)) (now (issue .entry)) (now (kept .entry)) r ⌝ }
 {
     let sides = bulletin_arrays::sides_in(small);
     if negotiation::macros_in_force(End::Bulletin, sides) {
         let status = sent_macros::status_at(statuses, x);
-        return sent_macros::status_number(status);
+        let at = x as usize;
+        return StandingNumbers {
+            status: sent_macros::status_number(status),
+            kept: kept[at],
+            present: issue[0],
+        };
     }
-    0
+    StandingNumbers {
+        status: 0,
+        kept: 0,
+        present: issue[0],
+    }
 }
 
 // Of each option about output disposition who handles its character, and how. It looks at the small parts alone.

@@ -9,3 +9,6 @@ pub mod ReadBack
 pub mod Opened
 pub mod Defined
 pub mod Incident
+pub mod Changes
+pub mod History
+pub mod InIssue

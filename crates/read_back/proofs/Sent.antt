@@ -3,7 +3,7 @@ use mathlib.Core.Path.{_≡_, refl, sym, _∙_}
 use mathlib.Core.Bool.{Bool, true, false, not, _&&_, false≢true}
 use mathlib.Core.List.{List, [], _∷_, flatMap}
 use Prim.Native.Nat.{ℕ}
-use lib.Dec.{ltb, leb}
+use lib.Dec.{ltb, leb, eqb}
 use borrow.Author.Tests.{leb-true, ltb-false, le-ltb, le-leb, not-true, not-false}
 use Rattle.lists.proofs.Lengths.{chosen}
 use Rattle.lists.proofs.Tables.{both-left, both-right}
@@ -13,6 +13,7 @@ use Rattle.keys.specs.declared.Key.{Key}
 use Rattle.keys.specs.declared.Key.the-variants.{Char, Line, Command}
 use Rattle.keys.specs.Keys.{badCommand}
 use Rattle.sent_macros.specs.Sending.{Sent, free, pending, pendingFree, accepted, refused, sentOf, isAccepted, acceptedText}
+use Rattle.issues.specs.Issues.{keptOf}
 use Rattle.disposition.specs.ByOption.{isWaiting}
 use Rattle.disposition.specs.ItemData.{itemData}
 use Rattle.printer.specs.State as P
@@ -43,7 +44,7 @@ not-bad (Char c) h = refl
 not-bad Line h = refl
 not-bad (Command c) h = not-false (plainCommand c) h
 
-accepted-is : (e : Sent) → isAccepted e ≡ true → e ≡ accepted (acceptedText e)
+pub accepted-is : (e : Sent) → isAccepted e ≡ true → e ≡ accepted (acceptedText e)
 accepted-is free h = absurd (false≢true h)
 accepted-is (pending t) h = absurd (false≢true h)
 accepted-is pendingFree h = absurd (false≢true h)
@@ -61,6 +62,7 @@ record UseAllowed (b : B.BulletinState) (x w : ℕ) : Type 0 where
   on : B.bmInForce b ≡ true
   ready : isWaiting (b .waits) ≡ false
   given : isAccepted (sentOf (b .table) x) ≡ true
+  current : eqb (keptOf (b .issues) x) (b .issues .present) ≡ true
 
 module _ (b : B.BulletinState) where
   item-allowed : (k : Key) (w : ℕ) → Allowed b (item k w) → ItemAllowed b k w
@@ -75,15 +77,19 @@ module _ (b : B.BulletinState) where
 
   use-allowed : (x w : ℕ) → Allowed b (macroUse x w) → UseAllowed b x w
   use-allowed x w h =
+      let ready = not (isWaiting (b .waits)) in
       let has = isAccepted (sentOf (b .table) x) in
+      let now = eqb (keptOf (b .issues) x) (b .issues .present) in
       let two = leb wireRoom w && B.bmInForce b in
-      let three = both-left (two && not (isWaiting (b .waits))) has h in
-      let front = both-left two (not (isWaiting (b .waits))) three in
+      let four = both-left (two && ready && has) now h in
+      let three = both-left (two && ready) has four in
+      let front = both-left two ready three in
       record {
         room = le-ltb w wireRoom (leb-true wireRoom w (both-left (leb wireRoom w) (B.bmInForce b) front));
         on = both-right (leb wireRoom w) (B.bmInForce b) front;
-        ready = not-true (isWaiting (b .waits)) (both-right two (not (isWaiting (b .waits))) three);
-        given = both-right (two && not (isWaiting (b .waits))) has h;
+        ready = not-true (isWaiting (b .waits)) (both-right two ready three);
+        given = both-right (two && ready) has four;
+        current = both-right (two && ready && has) now h;
       }
 
   -- an allowed one is not refused
@@ -93,7 +99,7 @@ module _ (b : B.BulletinState) where
 
   use-done : (x w : ℕ) → UseAllowed b x w → useCall b x w ≡ B.done (B.sends (x ∷ []) b)
   unfolding useCall guarded
-  use-done x w h = rw (h .room, h .on, h .ready, h .given)
+  use-done x w h = rw (h .room, h .on, h .ready, h .given, h .current)
 
   pub allowed-done : (c : Sending) → Allowed b c → answer b c ≡ B.done (does b c)
   unfolding BS.called
@@ -114,12 +120,13 @@ module _ (b : B.BulletinState) where
       (λ h. rw (le-leb wireRoom w (ltb-false w wireRoom (h .0)), not-bad k (h .1 .0), h .1 .1 .0)) off
   refused-effect (macroUse x w) off =
       stopped-effect _ (B.sends (x ∷ []) b) (useCall b x w) (isAllowed b (macroUse x w))
-      (judged _ (B.refused b) (B.done (B.sends (x ∷ []) b)) (refl, (refl, (refl, (refl, tt)))))
+      (judged _ (B.refused b) (B.done (B.sends (x ∷ []) b)) (refl, (refl, (refl, (refl, (refl, tt))))))
       (λ h. rw (
         le-leb wireRoom w (ltb-false w wireRoom (h .0)),
         not-false (B.bmInForce b) (h .1 .0),
         h .1 .1 .0,
         not-false (isAccepted (sentOf (b .table) x)) (h .1 .1 .1 .0),
+        not-false (eqb (keptOf (b .issues) x) (b .issues .present)) (h .1 .1 .1 .1 .0),
       )) off
 
   module _ (iac : IacFree b) (p : P.PrinterState) (a : Agreed b p) where

@@ -16,7 +16,7 @@ use Rattle.negotiation.specs.Table.{isYes}
 use Rattle.bodies.specs.declared.MacroReply.{MacroReply}
 use Rattle.bodies.specs.declared.MacroReply.the-variants.{Accept, Refuse, PleaseCancel}
 use Rattle.sent_macros.specs.Sending.{Definitions, Sent, free, noDefinitions, sentOf, isAccepted, onAccept, onRefuse, defining, sentFor}
-use Rattle.bulletin.specs.State.{BulletinState, fresh, withTable, CallEffect}
+use Rattle.bulletin.specs.State.{BulletinState, fresh, withDefinition, CallEffect}
 use Rattle.bulletin.specs.Network.{sideMoved, macroReplied}
 use Rattle.bulletin.specs.Calls.{defineGuards}
 use Rattle.bulletin.specs.Session.{Call, called, answersFrom}
@@ -63,16 +63,17 @@ replies-free s (PleaseCancel x) h =
 
 -- a DEFINE of 255 is refused
 defines-free : (s : BulletinState) (x : ℕ) (t : List ℕ) (w : ℕ) → NoneHolds (defineGuards s x t w) → IacFree s
-    → IacFree (withTable s (defining (s .table) x t))
+    → IacFree (withDefinition s x t)
 unfolding defining
 defines-free s x t w n h = set-free (s .table) x (sentFor x t) h (λ (e : x ≡ IAC). absurd (eqb-false x IAC (n .1 .1 .0) e))
 
 free-steps : Steps IacFree
 free-steps = record {
-  others = λ e f h. subst FreeIn f h;
+  others = λ e f g h. subst FreeIn f h;
   moves = λ s side q reply reached h. side-free s side q reply h;
   replies = replies-free;
   defines = defines-free;
+  issues = λ s n h. h;
 }
 
 pub called-free : (s : BulletinState) (c : Call) → IacFree s → IacFree (called s c .effect .state)

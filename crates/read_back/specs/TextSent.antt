@@ -3,13 +3,14 @@ use mathlib.Core.Path.{_≡_}
 use mathlib.Core.Bool.{Bool, true, not, _&&_, cond}
 use mathlib.Core.List.{List, [], _∷_, _++_, map}
 use Prim.Native.Nat.{ℕ}
-use lib.Dec.{leb}
+use lib.Dec.{leb, eqb}
 use Rattle.lists.specs.Choice.{between}
 use Rattle.codes.specs.Answers.{wireRoom}
 use Rattle.keys.specs.declared.Key.{Key}
 use Rattle.keys.specs.declared.Key.the-variants.{Char, Line, Command}
 use Rattle.disposition.specs.ByOption.{isWaiting}
 use Rattle.sent_macros.specs.Sending.{sentOf, isAccepted}
+use Rattle.issues.specs.Issues.{keptOf}
 use Rattle.bulletin.specs.State as B
 use Rattle.bulletin.specs.Calls.{textData, useData}
 use Rattle.bulletin.specs.Session as BS
@@ -30,10 +31,11 @@ isItem (Char b) = true
 isItem Line = true
 isItem (Command c) = between 241 249 c
 
--- None of the refusals that document 01 lists: of an item 1, 3 and 13, of a use 1, 6, 13 and 10. It is not read off the answer.
+-- None of the refusals that documents 01 and 02 list: of an item 1, 3 and 13, of a use 1, 6, 13, 10 and 14. It is not read off the answer.
 abbrev pub isAllowed : B.BulletinState → Sending → Bool
 isAllowed b (item k w) = leb wireRoom w && isItem k && not (isWaiting (b .waits))
-isAllowed b (macroUse x w) = leb wireRoom w && B.bmInForce b && not (isWaiting (b .waits)) && isAccepted (sentOf (b .table) x)
+isAllowed b (macroUse x w) =
+    leb wireRoom w && B.bmInForce b && not (isWaiting (b .waits)) && isAccepted (sentOf (b .table) x) && eqb (keptOf (b .issues) x) (b .issues .present)
 
 abbrev pub Allowed : B.BulletinState → Sending → Type 0
 Allowed b c = isAllowed b c ≡ true

@@ -10,14 +10,15 @@ use Rattle.negotiation.specs.Carried.{macrosInForce}
 use Rattle.sent_macros.specs.Sending.{Sent, free, statusOf, statusNumber}
 use Rattle.sent_macros.specs.Refinement.{statusFrom}
 use Rattle.sent_macros.proofs.Views.{status-at}
-use Rattle.bulletin.specs.Calls.{macroStatus}
+use Rattle.bulletin.specs.Calls.{macroStanding}
 use Rattle.bulletin.specs.State.{BulletinState, CallEffect}
 use Rattle.bulletin.specs.Refinement.{viewBulletin, RefinesAnswer, RefinesAnswerOnWire}
 use Rattle.bulletin.specs.declared.Bulletin.{Bulletin}
 use Rattle.bulletin.specs.declared.Answer.{Answer}
 use Rattle.session_arrays.specs.declared.Outcome.{Outcome}
+use Rattle.session_arrays.specs.declared.StandingNumbers.{StandingNumbers}
 use Rattle.session_arrays.specs.Numbers.{sidesIn}
-use Rattle.session_arrays.specs.BulletinArrays.{BulletinArrays, decodedBulletin, BulletinFoundAgain, LentBulletin, KeepsBulletin, RefinesOnBulletinArrays, RefinesOnBulletinArraysWire}
+use Rattle.session_arrays.specs.BulletinArrays.{BulletinArrays, decodedBulletin, BulletinFoundAgain, LentBulletin, KeepsBulletin, RefinesOnBulletinArrays, RefinesOnBulletinArraysWire, standingNumbers}
 use Rattle.session_arrays.proofs.Decoding.{option-state-found, phase-found, flag-found}
 
 pub bulletin-found-again : BulletinFoundAgain
@@ -39,10 +40,14 @@ on-arrays-wire rule {arrays} {wire} {s} {a} {r} found refines keeps = record {
   keeps = keeps;
 }
 
--- how a byte stands, by BM's state and the statuses alone
+-- how a byte stands, by BM's state, the statuses and the issues alone
 module _ (a : BulletinArrays) (x : ℕ) where
-  pub status-on : macrosInForce End.Bulletin (sidesIn (a .small)) ≡ true → statusFrom (getD (a .statuses) x 0) ≡ macroStatus (viewBulletin (decodedBulletin a)) x
-  status-on on = rw on (status-at (decodedBulletin a .table) x)
+  abbrev told : StandingNumbers
+  told = standingNumbers (macroStanding (viewBulletin (decodedBulletin a)) x)
 
-  pub status-off : macrosInForce End.Bulletin (sidesIn (a .small)) ≡ false → 0 ≡ statusNumber (macroStatus (viewBulletin (decodedBulletin a)) x)
-  status-off off = rw off (ap (λ (s : Sent). statusNumber (statusOf s)) (sym (getD-uniform 256 x free)))
+  pub standing-on : macrosInForce End.Bulletin (sidesIn (a .small)) ≡ true
+      → record { status = statusNumber (statusFrom (getD (a .statuses) x 0)); kept = getD (a .kept) x 0; present = getD (a .issue) 0 0 } ≡ told
+  standing-on on = rw (on, status-at (decodedBulletin a .table) x)
+
+  pub standing-off : macrosInForce End.Bulletin (sidesIn (a .small)) ≡ false → record { status = 0; kept = 0; present = getD (a .issue) 0 0 } ≡ told
+  standing-off off = rw (off, getD-uniform 256 x free)

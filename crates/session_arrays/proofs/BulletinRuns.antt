@@ -71,7 +71,7 @@ byte-by-value b {before} {after} {host} {wire} {s} {a} room found refines stored
 -- the option states, the phase and the waits stored alone: the arrays then stand for the same state with these parts
 module _ (sides : Sides) (phase : Phase) (waits : Waits) where
   abbrev storedInPlace : BulletinArrays → BulletinArrays
-  storedInPlace a = arraysOfBulletin (smallInPlace (a .small) sides phase waits) (a .counts) (a .body) (a .statuses) (a .marks) (a .cells)
+  storedInPlace a = arraysOfBulletin (smallInPlace (a .small) sides phase waits) (a .counts) (a .body) (a .statuses) (a .marks) (a .cells) (a .issue) (a .kept)
 
   in-place-found : (a : BulletinArrays) → decodedBulletin (storedInPlace a) ≡ inPlace (decodedBulletin a) sides phase waits
   in-place-found a = simp (option-state-found, phase-found, flag-found, getD-drop)
@@ -81,7 +81,7 @@ pub byte-in-place : (b : ℕ) (before : BulletinArrays) {small : List ℕ} {host
     → RefinesInPlace (inPlaceIn (before .small) b) host wire r → r .handled ≡ true
     → small ≡ smallInPlace (before .small) (r .sides) (r .phase) (r .waits)
     → RefinesByteOnBulletinArrays (networkRead (viewArrays before) b)
-    (lentArrays before (arraysOfBulletin small (before .counts) (before .body) (before .statuses) (before .marks) (before .cells)))
+    (lentArrays before (arraysOfBulletin small (before .counts) (before .body) (before .statuses) (before .marks) (before .cells) (before .issue) (before .kept)))
     host wire (record { note = Clear; first = r .host; wire = r .wire })
 byte-in-place b before {small} {host} {wire} {r} m h put =
     let s = decodedBulletin before in
@@ -112,7 +112,7 @@ module _ (small : List ℕ) (b : ℕ) {host wire : Lent} {r : InPlace} (m : Refi
 pub room-in-place : (small : List ℕ) (b : ℕ) (host wire : List ℕ) → noRoom (length host) (length wire) ≡ false
     → RoomFor (inPlaceIn small b .host) host × RoomFor (inPlaceIn small b .wire) wire
 room-in-place small b host wire room =
-    let fits = in-place-fits (decodedBulletin (arraysOfBulletin small [] [] [] [] [])) b in
+    let fits = in-place-fits (decodedBulletin (arraysOfBulletin small [] [] [] [] [] [] [])) b in
     let lent = both-lent (length host) (length wire) room in
     (omega (arith, fits .0, lent .0), omega (arith, fits .1, lent .1))
 

@@ -13,16 +13,19 @@ use Rattle.reader.specs.declared.Phase.{Phase}
 use Rattle.disposition.specs.declared.Waits.{Waits}
 use Rattle.sent_macros.specs.Sending.{statusNumber}
 use Rattle.bulletin.specs.State.{BulletinState, CallEffect}
-use Rattle.bulletin.specs.Calls.{macroStatus, dispositionsReport, outputNow}
+use Rattle.bulletin.specs.Calls.{macroStanding, dispositionsReport, outputNow}
 use Rattle.bulletin.specs.Refinement.{viewBulletin, RefinesAnswer, RefinesAnswerOnWire}
 use Rattle.bulletin.specs.declared.Bulletin.{Bulletin}
 use Rattle.bulletin.specs.declared.Answer.{Answer}
+use Rattle.bulletin.specs.declared.Standing.{Standing}
 use Rattle.session_arrays.specs.declared.Outcome.{Outcome}
 use Rattle.session_arrays.specs.declared.Reported.{Reported}
+use Rattle.session_arrays.specs.declared.StandingNumbers.{StandingNumbers}
 use Rattle.session_arrays.specs.Numbers.{flagNumber, flagOf, sidesIn, readerIn, sidesAndPhase, smallOf, valuesIn, valueNumbers, reportsIn, outputNumber}
 
 -- small: the states of the nine sides, the reader's phase and whether its body is marred, whether output waits for each option about
--- output disposition, DS and DR of each. counts: bytes of the body.
+-- output disposition, DS and DR of each. counts: bytes of the body. issue: the number in force. kept: for each byte the number that its last
+-- DEFINE kept.
 pub record BulletinArrays : Type 0 where
   pub small : List ℕ
   pub counts : List ℕ
@@ -30,6 +33,8 @@ pub record BulletinArrays : Type 0 where
   pub statuses : List ℕ
   pub marks : List ℕ
   pub cells : List ℕ
+  pub issue : List ℕ
+  pub kept : List ℕ
 
 abbrev pub waitsIn : List ℕ → Waits
 waitsIn small = record {
@@ -50,6 +55,7 @@ decodedBulletin a = record {
   table = record { statuses = a .statuses; texts = record { marks = a .marks; cells = a .cells } };
   values = valuesIn (a .small) 15;
   waits = waitsIn (a .small);
+  issues = record { present = getD (a .issue) 0 0; kept = a .kept };
 }
 
 abbrev pub smallOfBulletin : Bulletin → List ℕ
@@ -67,6 +73,8 @@ encodedBulletin b = record {
   statuses = b .table .statuses;
   marks = b .table .texts .marks;
   cells = b .table .texts .cells;
+  issue = b .issues .present ∷ [];
+  kept = b .issues .kept;
 }
 
 -- Assumed: nothing. Promised: a state that was stored is found again, every byte. Ruled out: two states with the same arrays.
@@ -110,22 +118,29 @@ pub record ReportsBulletin (small : List ℕ) (r : Reported) : Type 0 where
 pub record SaysOutput (small : List ℕ) (n : ℕ) : Type 0 where
   pub met : (a : BulletinArrays) → a .small ≡ small → n ≡ outputNumber (outputNow (viewBulletin (decodedBulletin a)))
 
-pub record SaysStatus (x : ℕ) (small statuses : List ℕ) (n : ℕ) : Type 0 where
-  pub met : (a : BulletinArrays) → a .small ≡ small → a .statuses ≡ statuses → n ≡ statusNumber (macroStatus (viewBulletin (decodedBulletin a)) x)
+-- how a macro byte stands, in numbers
+abbrev pub standingNumbers : Standing → StandingNumbers
+standingNumbers s = record { status = statusNumber (s .status); kept = s .kept; present = s .present }
+
+pub record SaysStanding (x : ℕ) (small statuses issue kept : List ℕ) (r : StandingNumbers) : Type 0 where
+  pub met : (a : BulletinArrays) → a .small ≡ small → a .statuses ≡ statuses → a .issue ≡ issue → a .kept ≡ kept
+      → r ≡ standingNumbers (macroStanding (viewBulletin (decodedBulletin a)) x)
 
 -- the arrays behind the parameters of a call
-abbrev pub arraysOfBulletin : (small counts body statuses marks cells : List ℕ) → BulletinArrays
-arraysOfBulletin small counts body statuses marks cells = record {
+abbrev pub arraysOfBulletin : (small counts body statuses marks cells issue kept : List ℕ) → BulletinArrays
+arraysOfBulletin small counts body statuses marks cells issue kept = record {
   small = small;
   counts = counts;
   body = body;
   statuses = statuses;
   marks = marks;
   cells = cells;
+  issue = issue;
+  kept = kept;
 }
 
-abbrev pub lentBulletin : (small counts body statuses marks cells : Both (RefT (List ℕ)) (RefT (List ℕ))) → LentBulletin
-lentBulletin small counts body statuses marks cells = record {
-  before = arraysOfBulletin (small .entry .now) (counts .entry .now) (body .entry .now) (statuses .entry .now) (marks .entry .now) (cells .entry .now);
-  after = arraysOfBulletin (small .exit .now) (counts .exit .now) (body .exit .now) (statuses .exit .now) (marks .exit .now) (cells .exit .now);
+abbrev pub lentBulletin : (small counts body statuses marks cells issue kept : Both (RefT (List ℕ)) (RefT (List ℕ))) → LentBulletin
+lentBulletin small counts body statuses marks cells issue kept = record {
+  before = arraysOfBulletin (small .entry .now) (counts .entry .now) (body .entry .now) (statuses .entry .now) (marks .entry .now) (cells .entry .now) (issue .entry .now) (kept .entry .now);
+  after = arraysOfBulletin (small .exit .now) (counts .exit .now) (body .exit .now) (statuses .exit .now) (marks .exit .now) (cells .exit .now) (issue .exit .now) (kept .exit .now);
 }

@@ -19,6 +19,7 @@ use bulletin::Bulletin;
 use disposition::AllValues;
 use disposition::Values;
 use disposition::Waits;
+use issues::Issues;
 use negotiation::Sides;
 use reader::BODY_ROOM;
 use reader::Phase;
@@ -85,8 +86,10 @@ pub fn decoded(
     statuses: &[u8; 256],
     marks: &[u16; 256],
     cells: &[u8; ROOM],
+    issue: &[u16; 1],
+    kept: &[u16; 256],
 ) -> Bulletin
-    ensures { λ r. ⌜ r ≡ decodedBulletin (arraysOfBulletin (now (small .entry)) (now (counts .entry)) (now (body .entry)) (now (statuses .entry)) (now (marks .entry)) (now (cells .entry))) ⌝ }
+    ensures { λ r. ⌜ r ≡ decodedBulletin (arraysOfBulletin (now (small .entry)) (now (counts .entry)) (now (body .entry)) (now (statuses .entry)) (now (marks .entry)) (now (cells .entry)) (now (issue .entry)) (now (kept .entry))) ⌝ }
 {
     let sides = sides_in(small);
     let reader = numbers::reader_of(small[9], small[10], counts[0], body);
@@ -100,12 +103,17 @@ pub fn decoded(
     };
     let values = values_in(small);
     let waits = waits_in(small);
+    let issues = Issues {
+        present: issue[0],
+        kept: *kept,
+    };
     Bulletin {
         sides,
         reader,
         table,
         values,
         waits,
+        issues,
     }
 }
 
@@ -178,8 +186,10 @@ pub fn store(
     statuses: &mut [u8; 256],
     marks: &mut [u16; 256],
     cells: &mut [u8; ROOM],
+    issue: &mut [u16; 1],
+    kept: &mut [u16; 256],
 )
-    ensures { λ r. ⌜ lentBulletin small counts body statuses marks cells .after ≡ encodedBulletin s ⌝ }
+    ensures { λ r. ⌜ lentBulletin small counts body statuses marks cells issue kept .after ≡ encodedBulletin s ⌝ }
 {
     let small_parts = small_of(s);
     let reader = s.reader;
@@ -189,12 +199,16 @@ pub fn store(
     let of_bytes = table.statuses;
     let of_texts = stored.marks;
     let texts = stored.cells;
+    let issues = s.issues;
+    let of_definitions = issues.kept;
     *small = small_parts;
     *counts = [reader.len];
     *body = read;
     *statuses = of_bytes;
     *marks = of_texts;
     *cells = texts;
+    *issue = [issues.present];
+    *kept = of_definitions;
 }
 
 // A call's answer in numbers; its state is stored if it is done, so that a refusal changes nothing.
@@ -206,8 +220,10 @@ pub fn kept(
     statuses: &mut [u8; 256],
     marks: &mut [u16; 256],
     cells: &mut [u8; ROOM],
+    issue: &mut [u16; 1],
+    kept: &mut [u16; 256],
 ) -> Outcome
-    ensures { λ r. ⌜ KeepsBulletin a (lentBulletin small counts body statuses marks cells) r ⌝ }
+    ensures { λ r. ⌜ KeepsBulletin a (lentBulletin small counts body statuses marks cells issue kept) r ⌝ }
 {
     let code = a.code;
     let note = a.note;
@@ -219,7 +235,17 @@ pub fn kept(
     };
     if codes::is_done(code) {
         let state = a.state;
-        store(state, small, counts, body, statuses, marks, cells);
+        store(
+            state,
+            small,
+            counts,
+            body,
+            statuses,
+            marks,
+            cells,
+            issue,
+            kept,
+        );
     }
     outcome
 }

@@ -59,17 +59,29 @@ fn read_by_value(
     statuses: &mut [u8; 256],
     marks: &mut [u16; 256],
     cells: &mut [u8; ROOM],
+    issue: &mut [u16; 1],
+    kept: &mut [u16; 256],
     b: u8,
     host: &mut [u8],
     wire: &mut [u8],
 ) -> ByteOutcome
     requires { ⌜ noRoom (length (now host)) (length (now wire)) ≡ false ⌝ }
-    ensures { λ r. ⌜ RefinesByteOnBulletinArrays (networkRead (viewBulletin (decodedBulletin (lentBulletin small counts body statuses marks cells .before))) b) (lentBulletin small counts body statuses marks cells) (lent host) (lent wire) r ⌝ }
+    ensures { λ r. ⌜ RefinesByteOnBulletinArrays (networkRead (viewBulletin (decodedBulletin (lentBulletin small counts body statuses marks cells issue kept .before))) b) (lentBulletin small counts body statuses marks cells issue kept) (lent host) (lent wire) r ⌝ }
 {
-    let s = bulletin_arrays::decoded(small, counts, body, statuses, marks, cells);
+    let s = bulletin_arrays::decoded(small, counts, body, statuses, marks, cells, issue, kept);
     let a = calls::network_byte(s, b, host, wire);
     let state = a.state;
-    bulletin_arrays::store(state, small, counts, body, statuses, marks, cells);
+    bulletin_arrays::store(
+        state,
+        small,
+        counts,
+        body,
+        statuses,
+        marks,
+        cells,
+        issue,
+        kept,
+    );
     let note = a.note;
     ByteOutcome {
         note,
@@ -86,12 +98,14 @@ fn byte_read(
     statuses: &mut [u8; 256],
     marks: &mut [u16; 256],
     cells: &mut [u8; ROOM],
+    issue: &mut [u16; 1],
+    kept: &mut [u16; 256],
     b: u8,
     host: &mut [u8],
     wire: &mut [u8],
 ) -> ByteOutcome
     requires { ⌜ noRoom (length (now host)) (length (now wire)) ≡ false ⌝ }
-    ensures { λ r. ⌜ RefinesByteOnBulletinArrays (networkRead (viewBulletin (decodedBulletin (lentBulletin small counts body statuses marks cells .before))) b) (lentBulletin small counts body statuses marks cells) (lent host) (lent wire) r ⌝ }
+    ensures { λ r. ⌜ RefinesByteOnBulletinArrays (networkRead (viewBulletin (decodedBulletin (lentBulletin small counts body statuses marks cells issue kept .before))) b) (lentBulletin small counts body statuses marks cells issue kept) (lent host) (lent wire) r ⌝ }
 {
     let e = read_in_place(small, b, host, wire);
     if e.handled {
@@ -105,7 +119,19 @@ fn byte_read(
             wire: e.wire,
         };
     }
-    read_by_value(small, counts, body, statuses, marks, cells, b, host, wire)
+    read_by_value(
+        small,
+        counts,
+        body,
+        statuses,
+        marks,
+        cells,
+        issue,
+        kept,
+        b,
+        host,
+        wire,
+    )
 }
 
 // A run whose first byte has room.
@@ -116,11 +142,13 @@ pub fn read_bytes(
     statuses: &mut [u8; 256],
     marks: &mut [u16; 256],
     cells: &mut [u8; ROOM],
+    issue: &mut [u16; 1],
+    kept: &mut [u16; 256],
     bytes: &[u8],
     host: &mut [u8],
     wire: &mut [u8],
 ) -> RunOutcome
-    ensures { λ r. ⌜ RefinesRunOnBulletinArrays (begunRun (viewBulletin (decodedBulletin (lentBulletin small counts body statuses marks cells .before))) (now (bytes .entry))) (lentBulletin small counts body statuses marks cells) (lent host) (lent wire) r ⌝ }
+    ensures { λ r. ⌜ RefinesRunOnBulletinArrays (begunRun (viewBulletin (decodedBulletin (lentBulletin small counts body statuses marks cells issue kept .before))) (now (bytes .entry))) (lentBulletin small counts body statuses marks cells issue kept) (lent host) (lent wire) r ⌝ }
 {
     let mut i: usize = 0;
     let mut p: usize = 0;
@@ -146,6 +174,8 @@ pub fn read_bytes(
             statuses,
             marks,
             cells,
+            issue,
+            kept,
             bytes[i],
             &mut host[p..],
             &mut wire[w..],

@@ -43,6 +43,14 @@ pub struct Reported {
     pub naohtd: Handler,
 }
 
+// How a macro byte stands in numbers: the status of its last DEFINE, the issue that this kept, and the issue in force.
+#[repr(C)]
+pub struct StandingNumbers {
+    pub status: u8,
+    pub kept: u16,
+    pub present: u16,
+}
+
 // The numbers of the nine sides' states.
 pub struct SideNumbers {
     pub echo: u8,

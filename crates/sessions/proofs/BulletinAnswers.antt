@@ -1,8 +1,8 @@
 -- What the bulletin end's calls by value answer, as the laws of calls on a record have it: of the state, the arguments and the
 -- lent buffers.
-use denote.Builtin.{u8}
+use denote.Builtin.{u8, u16}
 use Rattle.keys.proofs.Key as Key
-use Rattle.bulletin.specs.Calls.{networkCall, askCall, defineCall, useCall, textCall}
+use Rattle.bulletin.specs.Calls.{networkCall, askCall, defineCall, useCall, textCall, issueCall}
 use Rattle.bulletin.specs.Refinement.{viewBulletin, RefinesAnswer, RefinesAnswerOnWire}
 use Rattle.sessions.proofs.OneArgument as OneArgument
 use Rattle.sessions.proofs.OneOnWire as OneOnWire
@@ -24,3 +24,6 @@ use-macro s x wire r = RefinesAnswerOnWire (useCall (viewBulletin s) x) s wire r
 
 abbrev pub text-item : OneOnWire.Answers types Key.the-row
 text-item s k wire r = RefinesAnswerOnWire (textCall (viewBulletin s) k) s wire r
+
+abbrev pub issue : OneOnWire.Answers types u16
+issue s n wire r = RefinesAnswerOnWire (issueCall (viewBulletin s) n) s wire r

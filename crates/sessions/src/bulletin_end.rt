@@ -10,7 +10,8 @@ ghost use Rattle.bulletin.specs.Calls.{
   defineCall,
   useCall,
   textCall,
-  macroStatus,
+  issueCall,
+  macroStanding,
   dispositionsReport,
   outputNow,
 };
@@ -19,10 +20,10 @@ ghost use Rattle.sessions.specs.Refinement.{RefinesOnBulletin, RefinesOn
 use crate::BulletinOutcome;
 use bulletin::Bulletin;
 use bulletin::Output;
+use bulletin::Standing;
 use bulletin::calls;
 use disposition::Handlings;
 use keys::Key;
-use sent_macros::Status;
 
 pub fn network_byte(s: &mut Bulletin, b: u8, host: &mut [u8], wire: &mut [u8]) -> BulletinOutcome
     ensures { λ r. ⌜ RefinesOnBulletin (λ t. networkCall t b) s (lent host) (lent wire) r ⌝ }
@@ -122,11 +123,25 @@ pub fn text_item(s: &mut Bulletin, k: Key, wire: &mut [u8]) -> BulletinOutcome
     }
 }
 
-// How the last DEFINE of a byte stands.
-pub fn macro_status(s: &Bulletin, x: u8) -> Status
-    ensures { λ r. ⌜ r ≡ macroStatus (viewBulletin (now (s .entry))) x ⌝ }
+pub fn issue(s: &mut Bulletin, n: u16, wire: &mut [u8]) -> BulletinOutcome
+    ensures { λ r. ⌜ RefinesOnBulletinWire (λ t. issueCall t n) s (lent wire) r ⌝ }
 {
-    calls::macro_status(*s, x)
+    let a = calls::issue(*s, n, wire);
+    let state = a.state;
+    *s = state;
+    BulletinOutcome {
+        code: a.code,
+        note: a.note,
+        host: a.host,
+        wire: a.wire,
+    }
+}
+
+// How the last DEFINE of a byte stands, and the issue that it kept.
+pub fn macro_standing(s: &Bulletin, x: u8) -> Standing
+    ensures { λ r. ⌜ r ≡ macroStanding (viewBulletin (now (s .entry))) x ⌝ }
+{
+    calls::macro_standing(*s, x)
 }
 
 // Of each option about output disposition who handles its character, and how.

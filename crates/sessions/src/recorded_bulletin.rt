@@ -1,6 +1,6 @@
 // The bulletin end's calls for a caller that keeps the state by value, as the printer end's.
 ghost use Rattle.lists.specs.Buffers.{lent};
-ghost use Rattle.bulletin.specs.Calls.{networkCall, askCall, defineCall, useCall, textCall};
+ghost use Rattle.bulletin.specs.Calls.{networkCall, askCall, defineCall, useCall, textCall, issueCall};
 ghost use Rattle.bulletin.specs.Refinement.{viewBulletin, RefinesAnswer, RefinesAnswerOnWire};
 use crate::bulletin_end;
 use bulletin::Answer;
@@ -68,6 +68,20 @@ pub fn text_item(s: Bulletin, k: Key, wire: &mut [u8]) -> Answer
 {
     let mut record = s;
     let o = bulletin_end::text_item(&mut record, k, wire);
+    Answer {
+        code: o.code,
+        note: o.note,
+        host: o.host,
+        wire: o.wire,
+        state: record,
+    }
+}
+
+pub fn issue(s: Bulletin, n: u16, wire: &mut [u8]) -> Answer
+    ensures { λ r. ⌜ RefinesAnswerOnWire (issueCall (viewBulletin s) n) s (lent wire) r ⌝ }
+{
+    let mut record = s;
+    let o = bulletin_end::issue(&mut record, n, wire);
     Answer {
         code: o.code,
         note: o.note,

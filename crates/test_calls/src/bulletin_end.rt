@@ -9,6 +9,8 @@ use crate::run;
 use crate::run::PAPER_ROOM;
 use crate::run::Run;
 use crate::run::WIRE_ROOM;
+use crate::words;
+use crate::words::Item;
 use crate::words::Kind;
 use crate::words::Named;
 use bulletin::Answer;
@@ -97,51 +99,24 @@ fn characters(run: Run, bytes: &[u8]) -> Run {
 }
 
 fn items(run: Run, kind: Kind, bytes: &[u8]) -> Run {
-    match kind {
-        Kind::Char => characters(run, bytes),
-        Kind::Line => {
-            if bytes.len() == 0 {
-                made(run, BulletinCall::Text(Key::Line), bytes, 1)
-            } else {
-                run::wrong_count(run)
-            }
-        }
-        Kind::Command => {
-            if bytes.len() == 1 {
-                made(run, BulletinCall::Text(Key::Command(bytes[0])), bytes, 1)
-            } else {
-                run::wrong_count(run)
-            }
-        }
-        Kind::Unknown => run::refused(run, b"a text item is char, line or command"),
+    let item = words::item_of(kind, bytes);
+    match item {
+        Item::Characters => characters(run, bytes),
+        Item::One(key) => made(run, BulletinCall::Text(key), bytes, 1),
+        Item::WrongCount => run::wrong_count(run),
+        Item::Unknown => run::refused(run, b"a text item is char, line or command"),
     }
 }
 
-fn ask(run: Run, bytes: &[u8]) -> Run {
-    if bytes.len() == 2 {
-        made(run, BulletinCall::Ask(bytes[0], bytes[1]), bytes, 1)
-    } else {
-        run::wrong_count(run)
-    }
-}
-
-fn suggest(run: Run, bytes: &[u8]) -> Run {
-    if bytes.len() == 2 {
-        made(run, BulletinCall::Suggest(bytes[0], bytes[1]), bytes, 1)
-    } else {
-        run::wrong_count(run)
-    }
-}
-
-// Class bits, the high byte first.
-fn classes(high: u8, low: u8) -> u16 {
+// A number of two bytes, the high one first.
+fn number(high: u8, low: u8) -> u16 {
     high as u16 * 256 + low as u16
 }
 
 fn order(run: Run, bytes: &[u8]) -> Run {
     if bytes.len() == 5 {
-        let breaks = classes(bytes[1], bytes[2]);
-        let sends = classes(bytes[3], bytes[4]);
+        let breaks = number(bytes[1], bytes[2]);
+        let sends = number(bytes[3], bytes[4]);
         made(run, BulletinCall::Order(bytes[0], breaks, sends), bytes, 1)
     } else {
         run::wrong_count(run)
@@ -168,16 +143,31 @@ fn of_one(run: Run, named: Named, bytes: &[u8]) -> Run {
     }
 }
 
+// A call of two.
+fn of_two(run: Run, named: Named, bytes: &[u8]) -> Run {
+    if bytes.len() != 2 {
+        return run::wrong_count(run);
+    }
+    let a = bytes[0];
+    let b = bytes[1];
+    match named {
+        Named::Ask => made(run, BulletinCall::Ask(a, b), bytes, 1),
+        Named::Suggest => made(run, BulletinCall::Suggest(a, b), bytes, 1),
+        _ => made(run, BulletinCall::Issue(number(a, b)), bytes, 1),
+    }
+}
+
 pub fn line_run(run: Run, named: Named, kind: Kind, bytes: &[u8]) -> Run {
     let begun = run::next_line(run);
     match named {
         Named::Network => network(begun, bytes),
         Named::Text => items(begun, kind, bytes),
-        Named::Ask => ask(begun, bytes),
-        Named::Suggest => suggest(begun, bytes),
+        Named::Ask => of_two(begun, named, bytes),
+        Named::Suggest => of_two(begun, named, bytes),
         Named::Order => order(begun, bytes),
         Named::Define => define(begun, bytes),
         Named::Use => of_one(begun, named, bytes),
+        Named::Issue => of_two(begun, named, bytes),
         Named::Status => of_one(begun, named, bytes),
         Named::Report => questions::of_bulletin(begun, named, bytes),
         Named::Output => questions::of_bulletin(begun, named, bytes),

@@ -19,6 +19,7 @@ pub enum BulletinCall {
     Define(u8),
     Use(u8),
     Text(Key),
+    Issue(u16),
 }
 
 pub fn printer(s: Printer, c: PrinterCall, paper: &mut [u8], wire: &mut [u8]) -> printer::Answer {
@@ -47,5 +48,6 @@ pub fn bulletin(
         BulletinCall::Define(x) => bulletin::calls::define(s, x, text, wire),
         BulletinCall::Use(x) => bulletin::calls::use_macro(s, x, wire),
         BulletinCall::Text(k) => bulletin::calls::text_item(s, k, wire),
+        BulletinCall::Issue(n) => bulletin::calls::issue(s, n, wire),
     }
 }

@@ -26,19 +26,35 @@ fn end_of(text: &[u8], at: usize) -> usize
     i
 }
 
-// `room PAPER WIRE`: how large a buffer is lent from here on.
-fn room(run: Run, line: &[u8]) -> Run {
+// The sizes of a line `room PAPER WIRE`, and whether it is one.
+struct Sizes {
+    paper: isize,
+    wire: isize,
+    is_room: bool,
+}
+
+fn sizes_in(line: &[u8]) -> Sizes {
     let head = words::head_at(line, 0);
     let paper = hex::number_at(line, words::past_spaces(line, head.next));
     let wire = hex::number_at(line, words::past_spaces(line, paper.next));
     let named = head.named;
-    let is_room = words::is_room(named) && words::past_spaces(line, wire.next) == line.len();
-    if !(is_room && paper.value <= run::PAPER_ROOM && wire.value <= run::WIRE_ROOM) {
+    let ends = words::is_room(named) && words::past_spaces(line, wire.next) == line.len();
+    Sizes {
+        paper: paper.value as isize,
+        wire: wire.value as isize,
+        is_room: ends && paper.value <= run::PAPER_ROOM && wire.value <= run::WIRE_ROOM,
+    }
+}
+
+// How large a buffer is lent from here on.
+fn room(run: Run, line: &[u8]) -> Run {
+    let sizes = sizes_in(line);
+    if !sizes.is_room {
         return run::refused(run, b"room takes two numbers, up to 4096 and 8192");
     }
     let mut lent = run;
-    lent.paper = paper.value as isize;
-    lent.wire = wire.value as isize;
+    lent.paper = sizes.paper;
+    lent.wire = sizes.wire;
     lent
 }
 

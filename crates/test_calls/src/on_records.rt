@@ -33,5 +33,6 @@ pub fn bulletin(
         BulletinCall::Define(x) => recorded_bulletin::define(s, x, text, wire),
         BulletinCall::Use(x) => recorded_bulletin::use_macro(s, x, wire),
         BulletinCall::Text(k) => recorded_bulletin::text_item(s, k, wire),
+        BulletinCall::Issue(n) => recorded_bulletin::issue(s, n, wire),
     }
 }

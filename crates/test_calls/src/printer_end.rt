@@ -9,6 +9,8 @@ use crate::run;
 use crate::run::PAPER_ROOM;
 use crate::run::Run;
 use crate::run::WIRE_ROOM;
+use crate::words;
+use crate::words::Item;
 use crate::words::Kind;
 use crate::words::Named;
 use keys::Key;
@@ -104,39 +106,23 @@ fn characters(run: Run, bytes: &[u8]) -> Run {
 }
 
 fn keys(run: Run, kind: Kind, bytes: &[u8]) -> Run {
-    match kind {
-        Kind::Char => characters(run, bytes),
-        Kind::Line => {
-            if bytes.len() == 0 {
-                made(run, PrinterCall::Press(Key::Line), 1)
-            } else {
-                run::wrong_count(run)
-            }
-        }
-        Kind::Command => {
-            if bytes.len() == 1 {
-                made(run, PrinterCall::Press(Key::Command(bytes[0])), 1)
-            } else {
-                run::wrong_count(run)
-            }
-        }
-        Kind::Unknown => run::refused(run, b"a key is char, line or command"),
+    let item = words::item_of(kind, bytes);
+    match item {
+        Item::Characters => characters(run, bytes),
+        Item::One(key) => made(run, PrinterCall::Press(key), 1),
+        Item::WrongCount => run::wrong_count(run),
+        Item::Unknown => run::refused(run, b"a key is char, line or command"),
     }
 }
 
-fn ask(run: Run, bytes: &[u8]) -> Run {
-    if bytes.len() == 2 {
-        made(run, PrinterCall::Ask(bytes[0], bytes[1]), 1)
-    } else {
-        run::wrong_count(run)
+// A call of two bytes.
+fn of_two(run: Run, named: Named, bytes: &[u8]) -> Run {
+    if bytes.len() != 2 {
+        return run::wrong_count(run);
     }
-}
-
-fn suggest(run: Run, bytes: &[u8]) -> Run {
-    if bytes.len() == 2 {
-        made(run, PrinterCall::Suggest(bytes[0], bytes[1]), 1)
-    } else {
-        run::wrong_count(run)
+    match named {
+        Named::Ask => made(run, PrinterCall::Ask(bytes[0], bytes[1]), 1),
+        _ => made(run, PrinterCall::Suggest(bytes[0], bytes[1]), 1),
     }
 }
 
@@ -145,8 +131,8 @@ pub fn line_run(run: Run, named: Named, kind: Kind, bytes: &[u8]) -> Run {
     match named {
         Named::Network => network(begun, bytes),
         Named::Key => keys(begun, kind, bytes),
-        Named::Ask => ask(begun, bytes),
-        Named::Suggest => suggest(begun, bytes),
+        Named::Ask => of_two(begun, named, bytes),
+        Named::Suggest => of_two(begun, named, bytes),
         Named::Report => questions::of_printer(begun, bytes),
         _ => run::refused(begun, b"no such call at the printer end"),
     }

@@ -4,6 +4,7 @@ use crate::run;
 use crate::run::Run;
 use crate::words::Named;
 use bulletin::Output;
+use bulletin::Standing;
 use disposition::Handling;
 use disposition::Handlings;
 use sent_macros::Status;
@@ -39,12 +40,22 @@ fn say_handlings(h: Handlings) {
 
 fn say_status(s: Status) {
     match s {
-        Status::Free => output::say(b"free\n"),
-        Status::Pending => output::say(b"pending\n"),
-        Status::PendingFree => output::say(b"pending as itself\n"),
-        Status::Accepted => output::say(b"accepted\n"),
-        Status::Refused => output::say(b"refused\n"),
+        Status::Free => output::say(b"free "),
+        Status::Pending => output::say(b"pending "),
+        Status::PendingFree => output::say(b"pending as itself "),
+        Status::Accepted => output::say(b"accepted "),
+        Status::Refused => output::say(b"refused "),
     }
+}
+
+// The status, the issue that the definition kept, and the issue in force.
+fn say_standing(s: Standing) {
+    let status = s.status;
+    say_status(status);
+    output::say_number(s.kept as usize);
+    output::say(b" ");
+    output::say_number(s.present as usize);
+    output::say(b"\n");
 }
 
 fn say_output(o: Output) {
@@ -88,8 +99,8 @@ pub fn of_bulletin(run: Run, named: Named, bytes: &[u8]) -> Run {
 
 pub fn status(run: Run, x: u8) -> Run {
     let s = run.bulletin;
-    let status = bulletin::calls::macro_status(s, x);
+    let standing = bulletin::calls::macro_standing(s, x);
     output::say_place(run.line, 1);
-    say_status(status);
+    say_standing(standing);
     run
 }

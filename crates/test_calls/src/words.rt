@@ -1,6 +1,7 @@
 // The words of a line: which call it asks for, and of a key or a text item which kind.
 ghost use Prim.Native.Nat.{_≤_};
 ghost use lib.ListN.{length};
+use keys::Key;
 
 pub enum Named {
     Network,
@@ -11,6 +12,7 @@ pub enum Named {
     Order,
     Define,
     Use,
+    Issue,
     Status,
     Report,
     Output,
@@ -22,6 +24,14 @@ pub enum Kind {
     Char,
     Line,
     Command,
+    Unknown,
+}
+
+// What a line of keys or text items has: any number of characters, or one Line or Command.
+pub enum Item {
+    Characters,
+    One(Key),
+    WrongCount,
     Unknown,
 }
 
@@ -108,6 +118,7 @@ fn name_of(word: &[u8]) -> Named {
         b'a' => if_same(word, b"ask", Named::Ask),
         b'd' => if_same(word, b"define", Named::Define),
         b'u' => if_same(word, b"use", Named::Use),
+        b'i' => if_same(word, b"issue", Named::Issue),
         b's' => named_with_s(word),
         b'o' => named_with_o(word),
         b'r' => named_with_r(word),
@@ -126,6 +137,27 @@ fn kind_of(word: &[u8]) -> Kind {
         Kind::Command
     } else {
         Kind::Unknown
+    }
+}
+
+pub fn item_of(kind: Kind, bytes: &[u8]) -> Item {
+    match kind {
+        Kind::Char => Item::Characters,
+        Kind::Line => {
+            if bytes.len() == 0 {
+                Item::One(Key::Line)
+            } else {
+                Item::WrongCount
+            }
+        }
+        Kind::Command => {
+            if bytes.len() == 1 {
+                Item::One(Key::Command(bytes[0]))
+            } else {
+                Item::WrongCount
+            }
+        }
+        Kind::Unknown => Item::Unknown,
     }
 }
 

@@ -2,7 +2,7 @@
 use mathlib.Core.Path.{refl}
 use Rattle.printer.specs.Session as PS
 use Rattle.bulletin.specs.Session as BS
-use Rattle.traces.specs.ArrayContracts.{PrinterNetworkEnsures, PrinterPressEnsures, PrinterAskEnsures, PrinterSuggestEnsures, BulletinNetworkEnsures, BulletinAskEnsures, BulletinSuggestEnsures, BulletinOrderEnsures, BulletinDefineEnsures, BulletinUseEnsures, BulletinTextEnsures}
+use Rattle.traces.specs.ArrayContracts.{PrinterNetworkEnsures, PrinterPressEnsures, PrinterAskEnsures, PrinterSuggestEnsures, BulletinNetworkEnsures, BulletinAskEnsures, BulletinSuggestEnsures, BulletinOrderEnsures, BulletinDefineEnsures, BulletinUseEnsures, BulletinTextEnsures, BulletinIssueEnsures}
 
 pub printer-network-ensures : PrinterNetworkEnsures
 unfolding PS.called
@@ -47,3 +47,7 @@ bulletin-use-ensures w κs a r e = refl
 pub bulletin-text-ensures : BulletinTextEnsures
 unfolding BS.called
 bulletin-text-ensures w κs a r e = refl
+
+pub bulletin-issue-ensures : BulletinIssueEnsures
+unfolding BS.called
+bulletin-issue-ensures w κs a r e = refl

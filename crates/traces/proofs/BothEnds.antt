@@ -31,12 +31,12 @@ record Sent (a : rules-bulletin.CallEffect) (m : B.AnsweredCall) : Type 0 where
   wire : WroteAtStart (a .effect .wire) (m .wire) (m .answer .wire)
   view : viewBulletin (m .answer .state) ≡ a .effect .state
 
-record Read (a : rules-printer.CallEffect) (n : P.AnsweredCall) : Type 0 where
-  code : n .answer .code ≡ a .code
-  note : n .answer .note ≡ a .effect .note
-  paper : WroteAtStart (a .effect .paper) (n .paper) (n .answer .paper)
-  wire : WroteAtStart (a .effect .wire) (n .wire) (n .answer .wire)
-  view : viewPrinter (n .answer .state) ≡ a .effect .state
+pub record Read (a : rules-printer.CallEffect) (n : P.AnsweredCall) : Type 0 where
+  pub code : n .answer .code ≡ a .code
+  pub note : n .answer .note ≡ a .effect .note
+  pub paper : WroteAtStart (a .effect .paper) (n .paper) (n .answer .paper)
+  pub wire : WroteAtStart (a .effect .wire) (n .wire) (n .answer .wire)
+  pub view : viewPrinter (n .answer .state) ≡ a .effect .state
 
 sent : {b : Bulletin} {ms : List B.AnsweredCall} → B.Trace b ms → Beside Sent (BS.answersFrom (viewBulletin b) (B.callsOf ms)) ms
 unfolding BS.answersFrom
@@ -44,7 +44,7 @@ sent r =
     chain-answers BS.called (λ a. a .effect .state) BS.answersFrom (λ v. refl) (λ v c cs. refl) viewBulletin B.callOf B.after B.MeetsContract (λ s. Unit {0}) Sent
     (λ s m g t. (record { wire = g .sent; view = g .view }, g .view, tt)) r tt
 
-read : {p : Printer} {ns : List P.AnsweredCall} → P.Trace p ns → Beside Read (PS.answersFrom (viewPrinter p) (P.callsOf ns)) ns
+pub read : {p : Printer} {ns : List P.AnsweredCall} → P.Trace p ns → Beside Read (PS.answersFrom (viewPrinter p) (P.callsOf ns)) ns
 unfolding PS.answersFrom
 read r =
     chain-answers PS.called (λ a. a .effect .state) PS.answersFrom (λ v. refl) (λ v c cs. refl) viewPrinter P.callOf P.after P.MeetsContract (λ s. Unit {0}) Read
@@ -52,7 +52,7 @@ read r =
 
 -- what was written, read off the buffers, is what the rules write
 module _ {A M : Type 0} (R : A → M → Type 0) (bytes : A → List ℕ) (written : M → List ℕ) (same : (a : A) (m : M) → R a m → written m ≡ bytes a) where
-  written-is : {xs : List A} {ms : List M} → Beside R xs ms → flatMap written ms ≡ flatMap bytes xs
+  pub written-is : {xs : List A} {ms : List M} → Beside R xs ms → flatMap written ms ≡ flatMap bytes xs
   unfolding flatMap
   written-is Beside.none = refl
   written-is (Beside.more r rs) = ap₂ (λ (x y : List ℕ). x ++ y) (same _ _ r) (written-is rs)
@@ -78,7 +78,7 @@ prints a n r o = record {
   wire = r .wire .cells ∙ (rw (o .wire));
 }
 
-each-prints : {xs : List rules-printer.CallEffect} {ns : List P.AnsweredCall} → Beside Read xs ns → ((a : rules-printer.CallEffect) → List·Memᴰ a xs → rules.OnlyPrints a)
+pub each-prints : {xs : List rules-printer.CallEffect} {ns : List P.AnsweredCall} → Beside Read xs ns → ((a : rules-printer.CallEffect) → List·Memᴰ a xs → rules.OnlyPrints a)
     → (n : P.AnsweredCall) → List·Memᴰ n ns → OnlyPrints n
 each-prints Beside.none all n k = absurd (List·Memᴰ·not-nil k)
 each-prints (Beside.more {x = a} {y = m} r rs) all n k =
@@ -112,7 +112,7 @@ program-read-back b p iac agreed cs ms ns x =
     delivered x Agreed (allData (viewBulletin b) cs) (all-read-back (viewBulletin b) (viewPrinter p) iac agreed cs (P.callsOf ns) (bytes-read x))
 
 -- a state that a trace reached is one that a session reaches
-run-reached : (before : List B.AnsweredCall) (f : B.TraceFromFresh before) → viewBulletin (lastOf B.after (f .start) before) ≡ reached (B.callsOf before)
+pub run-reached : (before : List B.AnsweredCall) (f : B.TraceFromFresh before) → viewBulletin (lastOf B.after (f .start) before) ≡ reached (B.callsOf before)
 run-reached before f =
     let view : viewBulletin (f .start) ≡ rules-bulletin.fresh = ap viewBulletin (f .isFresh) ∙ fresh-view in
     bulletin-last (f .start) rules-bulletin.fresh view

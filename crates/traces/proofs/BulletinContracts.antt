@@ -2,7 +2,7 @@
 use mathlib.Core.Path.{refl, sym}
 use mathlib.Core.Bool.{false≢true}
 use Rattle.bulletin.specs.Session.{called}
-use Rattle.traces.specs.BulletinTraces.{network, ask, suggest, order, define, useMacro, text}
+use Rattle.traces.specs.BulletinTraces.{network, ask, suggest, order, define, useMacro, text, issue}
 use Rattle.traces.specs.BulletinContracts.{
   OnWireMeetsContract,
   FreshEnsures,
@@ -13,6 +13,7 @@ use Rattle.traces.specs.BulletinContracts.{
   DefineEnsures,
   UseEnsures,
   TextEnsures,
+  IssueEnsures,
 }
 
 pub on-wire-meets : OnWireMeetsContract
@@ -23,6 +24,7 @@ on-wire-meets s (order c breaks sends) wire r n g host = g .met host
 on-wire-meets s (define x t) wire r n g host = g .met host
 on-wire-meets s (useMacro x) wire r n g host = g .met host
 on-wire-meets s (text k) wire r n g host = g .met host
+on-wire-meets s (issue m) wire r n g host = g .met host
 
 pub fresh-ensures : FreshEnsures
 fresh-ensures κs a r e w = refl
@@ -54,3 +56,7 @@ use-ensures κs a r e w = refl
 pub text-ensures : TextEnsures
 unfolding called
 text-ensures κs a r e w = refl
+
+pub issue-ensures : IssueEnsures
+unfolding called
+issue-ensures κs a r e w = refl

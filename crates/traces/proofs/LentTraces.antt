@@ -62,6 +62,7 @@ use Rattle.traces.specs.LentTraces.{
   BulletinDefineEnsures,
   BulletinUseEnsures,
   BulletinTextEnsures,
+  BulletinIssueEnsures,
 }
 use Rattle.traces.specs.BothEnds.{Exchange}
 use Rattle.traces.proofs.Chains.{both-beside}
@@ -227,7 +228,7 @@ module _ (s : BT.BulletinState) where
   bulletin-guarded gs d q = guarded-holds BulletinUnwritten gs (BT.refused s) d (λ c n. (refl, refl)) q
 
   bulletin-unwritten : (c : BS.Call) → BulletinUnwritten (BS.called s c)
-  unfolding BS.called BCalls.networkCall BCalls.askCall BCalls.suggestCall BCalls.orderCall BCalls.defineCall BCalls.useCall BCalls.textCall
+  unfolding BS.called BCalls.networkCall BCalls.askCall BCalls.suggestCall BCalls.orderCall BCalls.defineCall BCalls.useCall BCalls.textCall BCalls.issueCall
   bulletin-unwritten (BS.Call.network b h w) = bulletin-guarded _ _ is-done
   bulletin-unwritten (BS.Call.ask o y w) = bulletin-guarded _ _ (asked-cases BulletinUnwritten (s .sides) _ _ (BT.refused s) _ (λ c n. (refl, refl)) (λ q r c e. is-done))
   bulletin-unwritten (BS.Call.suggest o v w) = bulletin-guarded _ _ (found-cases BulletinUnwritten (λ n. (refl, refl)) (λ d. bulletin-guarded _ _ is-done) (dispositionNumbered o))
@@ -235,6 +236,7 @@ module _ (s : BT.BulletinState) where
   bulletin-unwritten (BS.Call.define x t w) = bulletin-guarded _ _ is-done
   bulletin-unwritten (BS.Call.useMacro x w) = bulletin-guarded _ _ is-done
   bulletin-unwritten (BS.Call.text k w) = bulletin-guarded _ _ is-done
+  bulletin-unwritten (BS.Call.issue n w) = bulletin-guarded _ _ is-done
 
 pub printer-refused-unchanged : PrinterRefusedUnchanged
 printer-refused-unchanged s m g n =
@@ -291,3 +293,7 @@ bulletin-use-ensures w κs a r e = refl
 pub bulletin-text-ensures : BulletinTextEnsures
 unfolding BS.called
 bulletin-text-ensures w κs a r e = refl
+
+pub bulletin-issue-ensures : BulletinIssueEnsures
+unfolding BS.called
+bulletin-issue-ensures w κs a r e = refl

@@ -23,6 +23,7 @@ use Rattle.prambow.proofs.bulletin_calls.prambow_bulletin_order_arrays as bulle
 use Rattle.prambow.proofs.bulletin_calls.prambow_bulletin_define_arrays as bulletin-define
 use Rattle.prambow.proofs.bulletin_calls.prambow_bulletin_use_macro_arrays as bulletin-use-macro
 use Rattle.prambow.proofs.bulletin_calls.prambow_bulletin_text_item_arrays as bulletin-text-item
+use Rattle.prambow.proofs.bulletin_calls.prambow_bulletin_issue_arrays as bulletin-issue
 use Rattle.traces.specs.Traces as P
 use Rattle.traces.specs.BulletinTraces as B
 use Rattle.traces.specs.ArrayTraces.{PrinterOnArrays, PrinterMeetsOnArrays, BulletinOnArrays, BulletinMeetsOnArrays, BulletinMeetsOnArraysWire}
@@ -59,42 +60,48 @@ PrinterSuggestEnsures =
 
 abbrev pub BulletinNetworkEnsures : Type 2
 BulletinNetworkEnsures =
-    (w : World) (κs : Lfts 8) (a : ArgsD bulletin-network-byte.signature κs) (r : ResD bulletin-network-byte.signature κs) (e : AtExit bulletin-network-byte.ended κs)
+    (w : World) (κs : Lfts 10) (a : ArgsD bulletin-network-byte.signature κs) (r : ResD bulletin-network-byte.signature κs) (e : AtExit bulletin-network-byte.ended κs)
     → bulletin-network-byte.clauses (w .𝓤) (w .H) (w .𝓖 .A) (w .𝓜 .mem) (w .𝓡 .run) κs a .ensures tt r e
-    ≡ fact (w .𝓤) (BulletinMeetsOnArrays (arraysOfBulletin (now (a .0)) (now (a .1 .0)) (now (a .1 .1 .0)) (now (a .1 .1 .1 .0)) (now (a .1 .1 .1 .1 .0)) (now (a .1 .1 .1 .1 .1 .0))) (bulletinOnArrays (B.Args.network (a .1 .1 .1 .1 .1 .1 .0)) (lentAs (now (a .1 .1 .1 .1 .1 .1 .1 .0)) (now (e .1 .1 .1 .1 .1 .1 .1 .0))) (lentAs (now (a .1 .1 .1 .1 .1 .1 .1 .1 .0)) (now (e .1 .1 .1 .1 .1 .1 .1 .1 .0))) r (arraysOfBulletin (now (e .0)) (now (e .1 .0)) (now (e .1 .1 .0)) (now (e .1 .1 .1 .0)) (now (e .1 .1 .1 .1 .0)) (now (e .1 .1 .1 .1 .1 .0)))))
+    ≡ fact (w .𝓤) (BulletinMeetsOnArrays (arraysOfBulletin (now (a .0)) (now (a .1 .0)) (now (a .1 .1 .0)) (now (a .1 .1 .1 .0)) (now (a .1 .1 .1 .1 .0)) (now (a .1 .1 .1 .1 .1 .0)) (now (a .1 .1 .1 .1 .1 .1 .0)) (now (a .1 .1 .1 .1 .1 .1 .1 .0))) (bulletinOnArrays (B.Args.network (a .1 .1 .1 .1 .1 .1 .1 .1 .0)) (lentAs (now (a .1 .1 .1 .1 .1 .1 .1 .1 .1 .0)) (now (e .1 .1 .1 .1 .1 .1 .1 .1 .1 .0))) (lentAs (now (a .1 .1 .1 .1 .1 .1 .1 .1 .1 .1 .0)) (now (e .1 .1 .1 .1 .1 .1 .1 .1 .1 .1 .0))) r (arraysOfBulletin (now (e .0)) (now (e .1 .0)) (now (e .1 .1 .0)) (now (e .1 .1 .1 .0)) (now (e .1 .1 .1 .1 .0)) (now (e .1 .1 .1 .1 .1 .0)) (now (e .1 .1 .1 .1 .1 .1 .0)) (now (e .1 .1 .1 .1 .1 .1 .1 .0)))))
 
 abbrev pub BulletinAskEnsures : Type 2
 BulletinAskEnsures =
-    (w : World) (κs : Lfts 7) (a : ArgsD bulletin-ask.signature κs) (r : ResD bulletin-ask.signature κs) (e : AtExit bulletin-ask.ended κs)
+    (w : World) (κs : Lfts 9) (a : ArgsD bulletin-ask.signature κs) (r : ResD bulletin-ask.signature κs) (e : AtExit bulletin-ask.ended κs)
     → bulletin-ask.clauses (w .𝓤) (w .H) (w .𝓖 .A) (w .𝓜 .mem) (w .𝓡 .run) κs a .ensures tt r e
-    ≡ fact (w .𝓤) (BulletinMeetsOnArraysWire (arraysOfBulletin (now (a .0)) (now (a .1 .0)) (now (a .1 .1 .0)) (now (a .1 .1 .1 .0)) (now (a .1 .1 .1 .1 .0)) (now (a .1 .1 .1 .1 .1 .0))) (B.Args.ask (a .1 .1 .1 .1 .1 .1 .0) (a .1 .1 .1 .1 .1 .1 .1 .0)) (lentAs (now (a .1 .1 .1 .1 .1 .1 .1 .1 .0)) (now (e .1 .1 .1 .1 .1 .1 .1 .1 .0))) r (arraysOfBulletin (now (e .0)) (now (e .1 .0)) (now (e .1 .1 .0)) (now (e .1 .1 .1 .0)) (now (e .1 .1 .1 .1 .0)) (now (e .1 .1 .1 .1 .1 .0))))
+    ≡ fact (w .𝓤) (BulletinMeetsOnArraysWire (arraysOfBulletin (now (a .0)) (now (a .1 .0)) (now (a .1 .1 .0)) (now (a .1 .1 .1 .0)) (now (a .1 .1 .1 .1 .0)) (now (a .1 .1 .1 .1 .1 .0)) (now (a .1 .1 .1 .1 .1 .1 .0)) (now (a .1 .1 .1 .1 .1 .1 .1 .0))) (B.Args.ask (a .1 .1 .1 .1 .1 .1 .1 .1 .0) (a .1 .1 .1 .1 .1 .1 .1 .1 .1 .0)) (lentAs (now (a .1 .1 .1 .1 .1 .1 .1 .1 .1 .1 .0)) (now (e .1 .1 .1 .1 .1 .1 .1 .1 .1 .1 .0))) r (arraysOfBulletin (now (e .0)) (now (e .1 .0)) (now (e .1 .1 .0)) (now (e .1 .1 .1 .0)) (now (e .1 .1 .1 .1 .0)) (now (e .1 .1 .1 .1 .1 .0)) (now (e .1 .1 .1 .1 .1 .1 .0)) (now (e .1 .1 .1 .1 .1 .1 .1 .0))))
 
 abbrev pub BulletinSuggestEnsures : Type 2
 BulletinSuggestEnsures =
-    (w : World) (κs : Lfts 7) (a : ArgsD bulletin-suggest.signature κs) (r : ResD bulletin-suggest.signature κs) (e : AtExit bulletin-suggest.ended κs)
+    (w : World) (κs : Lfts 9) (a : ArgsD bulletin-suggest.signature κs) (r : ResD bulletin-suggest.signature κs) (e : AtExit bulletin-suggest.ended κs)
     → bulletin-suggest.clauses (w .𝓤) (w .H) (w .𝓖 .A) (w .𝓜 .mem) (w .𝓡 .run) κs a .ensures tt r e
-    ≡ fact (w .𝓤) (BulletinMeetsOnArraysWire (arraysOfBulletin (now (a .0)) (now (a .1 .0)) (now (a .1 .1 .0)) (now (a .1 .1 .1 .0)) (now (a .1 .1 .1 .1 .0)) (now (a .1 .1 .1 .1 .1 .0))) (B.Args.suggest (a .1 .1 .1 .1 .1 .1 .0) (a .1 .1 .1 .1 .1 .1 .1 .0)) (lentAs (now (a .1 .1 .1 .1 .1 .1 .1 .1 .0)) (now (e .1 .1 .1 .1 .1 .1 .1 .1 .0))) r (arraysOfBulletin (now (e .0)) (now (e .1 .0)) (now (e .1 .1 .0)) (now (e .1 .1 .1 .0)) (now (e .1 .1 .1 .1 .0)) (now (e .1 .1 .1 .1 .1 .0))))
+    ≡ fact (w .𝓤) (BulletinMeetsOnArraysWire (arraysOfBulletin (now (a .0)) (now (a .1 .0)) (now (a .1 .1 .0)) (now (a .1 .1 .1 .0)) (now (a .1 .1 .1 .1 .0)) (now (a .1 .1 .1 .1 .1 .0)) (now (a .1 .1 .1 .1 .1 .1 .0)) (now (a .1 .1 .1 .1 .1 .1 .1 .0))) (B.Args.suggest (a .1 .1 .1 .1 .1 .1 .1 .1 .0) (a .1 .1 .1 .1 .1 .1 .1 .1 .1 .0)) (lentAs (now (a .1 .1 .1 .1 .1 .1 .1 .1 .1 .1 .0)) (now (e .1 .1 .1 .1 .1 .1 .1 .1 .1 .1 .0))) r (arraysOfBulletin (now (e .0)) (now (e .1 .0)) (now (e .1 .1 .0)) (now (e .1 .1 .1 .0)) (now (e .1 .1 .1 .1 .0)) (now (e .1 .1 .1 .1 .1 .0)) (now (e .1 .1 .1 .1 .1 .1 .0)) (now (e .1 .1 .1 .1 .1 .1 .1 .0))))
 
 abbrev pub BulletinOrderEnsures : Type 2
 BulletinOrderEnsures =
-    (w : World) (κs : Lfts 7) (a : ArgsD bulletin-order.signature κs) (r : ResD bulletin-order.signature κs) (e : AtExit bulletin-order.ended κs)
+    (w : World) (κs : Lfts 9) (a : ArgsD bulletin-order.signature κs) (r : ResD bulletin-order.signature κs) (e : AtExit bulletin-order.ended κs)
     → bulletin-order.clauses (w .𝓤) (w .H) (w .𝓖 .A) (w .𝓜 .mem) (w .𝓡 .run) κs a .ensures tt r e
-    ≡ fact (w .𝓤) (BulletinMeetsOnArraysWire (arraysOfBulletin (now (a .0)) (now (a .1 .0)) (now (a .1 .1 .0)) (now (a .1 .1 .1 .0)) (now (a .1 .1 .1 .1 .0)) (now (a .1 .1 .1 .1 .1 .0))) (B.Args.order (a .1 .1 .1 .1 .1 .1 .0) (a .1 .1 .1 .1 .1 .1 .1 .0) (a .1 .1 .1 .1 .1 .1 .1 .1 .0)) (lentAs (now (a .1 .1 .1 .1 .1 .1 .1 .1 .1 .0)) (now (e .1 .1 .1 .1 .1 .1 .1 .1 .1 .0))) r (arraysOfBulletin (now (e .0)) (now (e .1 .0)) (now (e .1 .1 .0)) (now (e .1 .1 .1 .0)) (now (e .1 .1 .1 .1 .0)) (now (e .1 .1 .1 .1 .1 .0))))
+    ≡ fact (w .𝓤) (BulletinMeetsOnArraysWire (arraysOfBulletin (now (a .0)) (now (a .1 .0)) (now (a .1 .1 .0)) (now (a .1 .1 .1 .0)) (now (a .1 .1 .1 .1 .0)) (now (a .1 .1 .1 .1 .1 .0)) (now (a .1 .1 .1 .1 .1 .1 .0)) (now (a .1 .1 .1 .1 .1 .1 .1 .0))) (B.Args.order (a .1 .1 .1 .1 .1 .1 .1 .1 .0) (a .1 .1 .1 .1 .1 .1 .1 .1 .1 .0) (a .1 .1 .1 .1 .1 .1 .1 .1 .1 .1 .0)) (lentAs (now (a .1 .1 .1 .1 .1 .1 .1 .1 .1 .1 .1 .0)) (now (e .1 .1 .1 .1 .1 .1 .1 .1 .1 .1 .1 .0))) r (arraysOfBulletin (now (e .0)) (now (e .1 .0)) (now (e .1 .1 .0)) (now (e .1 .1 .1 .0)) (now (e .1 .1 .1 .1 .0)) (now (e .1 .1 .1 .1 .1 .0)) (now (e .1 .1 .1 .1 .1 .1 .0)) (now (e .1 .1 .1 .1 .1 .1 .1 .0))))
 
 abbrev pub BulletinDefineEnsures : Type 2
 BulletinDefineEnsures =
-    (w : World) (κs : Lfts 8) (a : ArgsD bulletin-define.signature κs) (r : ResD bulletin-define.signature κs) (e : AtExit bulletin-define.ended κs)
+    (w : World) (κs : Lfts 10) (a : ArgsD bulletin-define.signature κs) (r : ResD bulletin-define.signature κs) (e : AtExit bulletin-define.ended κs)
     → bulletin-define.clauses (w .𝓤) (w .H) (w .𝓖 .A) (w .𝓜 .mem) (w .𝓡 .run) κs a .ensures tt r e
-    ≡ fact (w .𝓤) (BulletinMeetsOnArraysWire (arraysOfBulletin (now (a .0)) (now (a .1 .0)) (now (a .1 .1 .0)) (now (a .1 .1 .1 .0)) (now (a .1 .1 .1 .1 .0)) (now (a .1 .1 .1 .1 .1 .0))) (B.Args.define (a .1 .1 .1 .1 .1 .1 .0) (now (a .1 .1 .1 .1 .1 .1 .1 .0))) (lentAs (now (a .1 .1 .1 .1 .1 .1 .1 .1 .0)) (now (e .1 .1 .1 .1 .1 .1 .1 .1 .0))) r (arraysOfBulletin (now (e .0)) (now (e .1 .0)) (now (e .1 .1 .0)) (now (e .1 .1 .1 .0)) (now (e .1 .1 .1 .1 .0)) (now (e .1 .1 .1 .1 .1 .0))))
+    ≡ fact (w .𝓤) (BulletinMeetsOnArraysWire (arraysOfBulletin (now (a .0)) (now (a .1 .0)) (now (a .1 .1 .0)) (now (a .1 .1 .1 .0)) (now (a .1 .1 .1 .1 .0)) (now (a .1 .1 .1 .1 .1 .0)) (now (a .1 .1 .1 .1 .1 .1 .0)) (now (a .1 .1 .1 .1 .1 .1 .1 .0))) (B.Args.define (a .1 .1 .1 .1 .1 .1 .1 .1 .0) (now (a .1 .1 .1 .1 .1 .1 .1 .1 .1 .0))) (lentAs (now (a .1 .1 .1 .1 .1 .1 .1 .1 .1 .1 .0)) (now (e .1 .1 .1 .1 .1 .1 .1 .1 .1 .1 .0))) r (arraysOfBulletin (now (e .0)) (now (e .1 .0)) (now (e .1 .1 .0)) (now (e .1 .1 .1 .0)) (now (e .1 .1 .1 .1 .0)) (now (e .1 .1 .1 .1 .1 .0)) (now (e .1 .1 .1 .1 .1 .1 .0)) (now (e .1 .1 .1 .1 .1 .1 .1 .0))))
 
 abbrev pub BulletinUseEnsures : Type 2
 BulletinUseEnsures =
-    (w : World) (κs : Lfts 7) (a : ArgsD bulletin-use-macro.signature κs) (r : ResD bulletin-use-macro.signature κs) (e : AtExit bulletin-use-macro.ended κs)
+    (w : World) (κs : Lfts 9) (a : ArgsD bulletin-use-macro.signature κs) (r : ResD bulletin-use-macro.signature κs) (e : AtExit bulletin-use-macro.ended κs)
     → bulletin-use-macro.clauses (w .𝓤) (w .H) (w .𝓖 .A) (w .𝓜 .mem) (w .𝓡 .run) κs a .ensures tt r e
-    ≡ fact (w .𝓤) (BulletinMeetsOnArraysWire (arraysOfBulletin (now (a .0)) (now (a .1 .0)) (now (a .1 .1 .0)) (now (a .1 .1 .1 .0)) (now (a .1 .1 .1 .1 .0)) (now (a .1 .1 .1 .1 .1 .0))) (B.Args.useMacro (a .1 .1 .1 .1 .1 .1 .0)) (lentAs (now (a .1 .1 .1 .1 .1 .1 .1 .0)) (now (e .1 .1 .1 .1 .1 .1 .1 .0))) r (arraysOfBulletin (now (e .0)) (now (e .1 .0)) (now (e .1 .1 .0)) (now (e .1 .1 .1 .0)) (now (e .1 .1 .1 .1 .0)) (now (e .1 .1 .1 .1 .1 .0))))
+    ≡ fact (w .𝓤) (BulletinMeetsOnArraysWire (arraysOfBulletin (now (a .0)) (now (a .1 .0)) (now (a .1 .1 .0)) (now (a .1 .1 .1 .0)) (now (a .1 .1 .1 .1 .0)) (now (a .1 .1 .1 .1 .1 .0)) (now (a .1 .1 .1 .1 .1 .1 .0)) (now (a .1 .1 .1 .1 .1 .1 .1 .0))) (B.Args.useMacro (a .1 .1 .1 .1 .1 .1 .1 .1 .0)) (lentAs (now (a .1 .1 .1 .1 .1 .1 .1 .1 .1 .0)) (now (e .1 .1 .1 .1 .1 .1 .1 .1 .1 .0))) r (arraysOfBulletin (now (e .0)) (now (e .1 .0)) (now (e .1 .1 .0)) (now (e .1 .1 .1 .0)) (now (e .1 .1 .1 .1 .0)) (now (e .1 .1 .1 .1 .1 .0)) (now (e .1 .1 .1 .1 .1 .1 .0)) (now (e .1 .1 .1 .1 .1 .1 .1 .0))))
 
 abbrev pub BulletinTextEnsures : Type 2
 BulletinTextEnsures =
-    (w : World) (κs : Lfts 7) (a : ArgsD bulletin-text-item.signature κs) (r : ResD bulletin-text-item.signature κs) (e : AtExit bulletin-text-item.ended κs)
+    (w : World) (κs : Lfts 9) (a : ArgsD bulletin-text-item.signature κs) (r : ResD bulletin-text-item.signature κs) (e : AtExit bulletin-text-item.ended κs)
     → bulletin-text-item.clauses (w .𝓤) (w .H) (w .𝓖 .A) (w .𝓜 .mem) (w .𝓡 .run) κs a .ensures tt r e
-    ≡ fact (w .𝓤) (BulletinMeetsOnArraysWire (arraysOfBulletin (now (a .0)) (now (a .1 .0)) (now (a .1 .1 .0)) (now (a .1 .1 .1 .0)) (now (a .1 .1 .1 .1 .0)) (now (a .1 .1 .1 .1 .1 .0))) (B.Args.text (keyOfPair (a .1 .1 .1 .1 .1 .1 .0) (a .1 .1 .1 .1 .1 .1 .1 .0))) (lentAs (now (a .1 .1 .1 .1 .1 .1 .1 .1 .0)) (now (e .1 .1 .1 .1 .1 .1 .1 .1 .0))) r (arraysOfBulletin (now (e .0)) (now (e .1 .0)) (now (e .1 .1 .0)) (now (e .1 .1 .1 .0)) (now (e .1 .1 .1 .1 .0)) (now (e .1 .1 .1 .1 .1 .0))))
+    ≡ fact (w .𝓤) (BulletinMeetsOnArraysWire (arraysOfBulletin (now (a .0)) (now (a .1 .0)) (now (a .1 .1 .0)) (now (a .1 .1 .1 .0)) (now (a .1 .1 .1 .1 .0)) (now (a .1 .1 .1 .1 .1 .0)) (now (a .1 .1 .1 .1 .1 .1 .0)) (now (a .1 .1 .1 .1 .1 .1 .1 .0))) (B.Args.text (keyOfPair (a .1 .1 .1 .1 .1 .1 .1 .1 .0) (a .1 .1 .1 .1 .1 .1 .1 .1 .1 .0))) (lentAs (now (a .1 .1 .1 .1 .1 .1 .1 .1 .1 .1 .0)) (now (e .1 .1 .1 .1 .1 .1 .1 .1 .1 .1 .0))) r (arraysOfBulletin (now (e .0)) (now (e .1 .0)) (now (e .1 .1 .0)) (now (e .1 .1 .1 .0)) (now (e .1 .1 .1 .1 .0)) (now (e .1 .1 .1 .1 .1 .0)) (now (e .1 .1 .1 .1 .1 .1 .0)) (now (e .1 .1 .1 .1 .1 .1 .1 .0))))
+
+abbrev pub BulletinIssueEnsures : Type 2
+BulletinIssueEnsures =
+    (w : World) (κs : Lfts 9) (a : ArgsD bulletin-issue.signature κs) (r : ResD bulletin-issue.signature κs) (e : AtExit bulletin-issue.ended κs)
+    → bulletin-issue.clauses (w .𝓤) (w .H) (w .𝓖 .A) (w .𝓜 .mem) (w .𝓡 .run) κs a .ensures tt r e
+    ≡ fact (w .𝓤) (BulletinMeetsOnArraysWire (arraysOfBulletin (now (a .0)) (now (a .1 .0)) (now (a .1 .1 .0)) (now (a .1 .1 .1 .0)) (now (a .1 .1 .1 .1 .0)) (now (a .1 .1 .1 .1 .1 .0)) (now (a .1 .1 .1 .1 .1 .1 .0)) (now (a .1 .1 .1 .1 .1 .1 .1 .0))) (B.Args.issue (a .1 .1 .1 .1 .1 .1 .1 .1 .0)) (lentAs (now (a .1 .1 .1 .1 .1 .1 .1 .1 .1 .0)) (now (e .1 .1 .1 .1 .1 .1 .1 .1 .1 .0))) r (arraysOfBulletin (now (e .0)) (now (e .1 .0)) (now (e .1 .1 .0)) (now (e .1 .1 .1 .0)) (now (e .1 .1 .1 .1 .0)) (now (e .1 .1 .1 .1 .1 .0)) (now (e .1 .1 .1 .1 .1 .1 .0)) (now (e .1 .1 .1 .1 .1 .1 .1 .0))))

@@ -38,7 +38,10 @@ use Rattle.bulletin.proofs.calls.use_macro.Kinds as use-macro-kinds
 use Rattle.bulletin.proofs.calls.text_item
 use Rattle.bulletin.proofs.calls.text_item.Reads as text-item-reads
 use Rattle.bulletin.proofs.calls.text_item.Kinds as text-item-kinds
-use Rattle.traces.specs.BulletinTraces.{Args, network, ask, suggest, order, define, useMacro, text, AnsweredCall, withSizes, MeetsContract}
+use Rattle.bulletin.proofs.calls.issue
+use Rattle.bulletin.proofs.calls.issue.Reads as issue-reads
+use Rattle.bulletin.proofs.calls.issue.Kinds as issue-kinds
+use Rattle.traces.specs.BulletinTraces.{Args, network, ask, suggest, order, define, useMacro, text, issue, AnsweredCall, withSizes, MeetsContract}
 
 abbrev pub made : Args → (host wire : Lent) → Answer → AnsweredCall
 made args host wire r = record { args = args; host = host; wire = wire; answer = r }
@@ -51,6 +54,7 @@ lendsData (order c breaks sends) = false
 lendsData (define x t) = false
 lendsData (useMacro x) = false
 lendsData (text k) = false
+lendsData (issue n) = false
 
 -- what the contract of a call that lends no buffer for data says
 abbrev pub MeetsContractOnWire : Bulletin → Args → Lent → Answer → Type 0
@@ -114,3 +118,9 @@ abbrev pub TextEnsures : Type 2
 TextEnsures =
     (κs : Lfts 1) (a : ArgsD text_item.signature κs) (r : ResD text_item.signature κs) (e : AtExit (endedOf 1 text-item-kinds.ps text-item-kinds.r) κs) (w : World)
     → text-item-reads.ensures κs a tt r e w ≡ fact (w .𝓤) (MeetsContractOnWire (a .0) (Args.text (a .1 .0)) (lentAs (now (a .1 .1 .0)) (now (e .1 .1 .0))) r)
+
+-- The same of `issue`. Ruled out: another number than the one given; another buffer than the wire's.
+abbrev pub IssueEnsures : Type 2
+IssueEnsures =
+    (κs : Lfts 1) (a : ArgsD issue.signature κs) (r : ResD issue.signature κs) (e : AtExit (endedOf 1 issue-kinds.ps issue-kinds.r) κs) (w : World)
+    → issue-reads.ensures κs a tt r e w ≡ fact (w .𝓤) (MeetsContractOnWire (a .0) (Args.issue (a .1 .0)) (lentAs (now (a .1 .1 .0)) (now (e .1 .1 .0))) r)

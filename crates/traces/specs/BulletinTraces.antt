@@ -21,6 +21,7 @@ pub data Args : Type 0 where
   define : (byte : ℕ) → List ℕ → Args
   useMacro : (byte : ℕ) → Args
   text : Key → Args
+  issue : (number : ℕ) → Args
 
 -- the rules' call: its sizes are those of the lent buffers; only a network byte has one for data
 abbrev pub withSizes : Args → ℕ → ℕ → Call
@@ -31,6 +32,7 @@ withSizes (order c breaks sends) h w = Call.order c breaks sends w
 withSizes (define x t) h w = Call.define x t w
 withSizes (useMacro x) h w = Call.useMacro x w
 withSizes (text k) h w = Call.text k w
+withSizes (issue n) h w = Call.issue n w
 
 -- a call that the program made: the lent buffers, and its answer
 pub record AnsweredCall : Type 0 where

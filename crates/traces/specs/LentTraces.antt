@@ -33,6 +33,7 @@ use Rattle.sessions.proofs.bulletin_end.order as bulletin-order
 use Rattle.sessions.proofs.bulletin_end.define as bulletin-define
 use Rattle.sessions.proofs.bulletin_end.use_macro as bulletin-use-macro
 use Rattle.sessions.proofs.bulletin_end.text_item as bulletin-text-item
+use Rattle.sessions.proofs.bulletin_end.issue as bulletin-issue
 use Rattle.read_back.specs.Ends.{NetworkCalls}
 use Rattle.read_back.specs.TextSent.{Sending, asCall, allData}
 use Rattle.read_back.specs.ReadBack.{Demanded, Agreed, IacFree}
@@ -320,3 +321,10 @@ BulletinTextEnsures =
     (w : World) (κs : Lfts 2) (a : ArgsD bulletin-text-item.signature κs) (r : ResD bulletin-text-item.signature κs) (e : AtExit bulletin-text-item.ended κs)
     → bulletin-text-item.clauses (w .𝓤) (w .H) (w .𝓖 .A) (w .𝓜 .mem) (w .𝓡 .run) κs a .ensures tt r e
     ≡ fact (w .𝓤) (BulletinMeetsContractOnWire (now (a .0)) (B.Args.text (a .1 .0)) (lentAs (now (a .1 .1 .0)) (now (e .1 .1 .0))) r (now (e .0)))
+
+-- The same of `issue`. Ruled out: another number than the one given; a record that stays as it was.
+abbrev pub BulletinIssueEnsures : Type 2
+BulletinIssueEnsures =
+    (w : World) (κs : Lfts 2) (a : ArgsD bulletin-issue.signature κs) (r : ResD bulletin-issue.signature κs) (e : AtExit bulletin-issue.ended κs)
+    → bulletin-issue.clauses (w .𝓤) (w .H) (w .𝓖 .A) (w .𝓜 .mem) (w .𝓡 .run) κs a .ensures tt r e
+    ≡ fact (w .𝓤) (BulletinMeetsContractOnWire (now (a .0)) (B.Args.issue (a .1 .0)) (lentAs (now (a .1 .1 .0)) (now (e .1 .1 .0))) r (now (e .0)))

@@ -13,7 +13,7 @@ use Rattle.bulletin.specs.declared.Bulletin.{Bulletin}
 use Rattle.bulletin.specs.Refinement.{viewBulletin, stepOf}
 use Rattle.bulletin.specs.Calls.{defineGuardsBeforeSize, defineCall}
 use Rattle.bulletin.proofs.Limits.{defining-fits}
-use Rattle.bulletin.proofs.Meeting.{met-step, met-table}
+use Rattle.bulletin.proofs.Meeting.{met-step, met-macros}
 use Rattle.bulletin.proofs.Answering.{stopped-on-wire, passed-on-wire, done-on-wire}
 use Rattle.bulletin.proofs.Rooms.{room-on-wire}
 use borrow.Author.Needs.{needs}
@@ -83,8 +83,11 @@ returns-2 c =
     let same = rw (too-long long) at (made .define .ensures .wire) in
     rw (same .cells, c .refused2 .ensures) (stopped-on-wire (guards start) _ (sym first) refl refl)
 
-with-table-requires : tie.Need-with-table-requires
-with-table-requires c κs = search needs
+keep-requires : tie.Need-keep-requires
+keep-requires c κs = search needs
+
+with-macros-requires : tie.Need-with-macros-requires
+with-macros-requires c κs = search needs
 
 step-requires : tie.Need-step-requires
 step-requires c κs = search needs
@@ -93,22 +96,23 @@ done-requires : tie.Need-done-requires
 done-requires c κs = search needs
 
 same-length-2 : tie.Need-same-length-2
-same-length-2 c = search needs
+same-length-2 c = search (needs, c .before .before .before .before .before .before .before .before .before .define)
 
 returns-3 : tie.Need-returns-3
 unfolding defineCall refusalOf
 returns-3 c =
-    let fits = c .before .before .before .before in
+    let kept = c .before .before .before in
+    let fits = kept .before .before in
     let made = fits .before .before .before .before in
     let go = made .before .before .before in
     let start = go .before .before .before .before .before in
     let first = earlier-pass (earlier start) (size start ∷ []) (none-earlier go) ∙ first-passed (size start) [] (short fits) in
     let wire = rw (short fits) at (made .define .ensures .wire) in
     let table = rw (short fits) at (made .define .ensures .table) in
-    let stepped = c .before .step .ensures ∙ ap (λ (t : Bulletin). stepOf Clear (made .define .result .wire) t) (c .before .before .with-table .ensures) in
-    rw (c .done .ensures .0)
+    let stepped = c .before .step .ensures ∙ ap (λ (t : Bulletin). stepOf Clear (made .define .result .wire) t) (c .before .before .with-macros .ensures) in
+    rw (c .done .ensures .0, ← kept .keep .ensures)
     (passed-on-wire (guards start) _ (sym first) refl (refl, (refl, (refl, (refl, (refl, tt))))) refl
-    (done-on-wire stepped (met-step Clear (met-table table) wire) (c .done .ensures .1)))
+    (done-on-wire stepped (met-step Clear (met-macros table _) wire) (c .done .ensures .1)))
 
 pub define-spec : {M : Type 1} → statement M
 define-spec =
@@ -122,7 +126,8 @@ define-spec =
     refused-requires-2
     same-length
     returns-2
-    with-table-requires
+    keep-requires
+    with-macros-requires
     step-requires
     done-requires
     same-length-2

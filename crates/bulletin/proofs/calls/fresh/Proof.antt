@@ -17,11 +17,15 @@ all-unspoken-requires c κs = search needs
 no-waits-requires : tie.Need-no-waits-requires
 no-waits-requires c κs = search needs
 
+first-requires : tie.Need-first-requires
+first-requires c κs = search needs
+
 returns : tie.Need-returns
 returns c =
-    let made = c .before .before in
-    rw (made .before .before .all-no .ensures, made .before .idle .ensures, made .none .ensures, c .before .all-unspoken .ensures, c .no-waits .ensures)
+    let waits = c .before in
+    let made = waits .before .before in
+    rw (made .before .before .all-no .ensures, made .before .idle .ensures, made .none .ensures, waits .before .all-unspoken .ensures, waits .no-waits .ensures, c .first .ensures)
 
 pub fresh-spec : {M : Type 1} → statement M
 fresh-spec =
-    tie.close (tie.spec all-no-requires idle-requires none-requires all-unspoken-requires no-waits-requires returns)
+    tie.close (tie.spec all-no-requires idle-requires none-requires all-unspoken-requires no-waits-requires first-requires returns)

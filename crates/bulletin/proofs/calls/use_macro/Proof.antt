@@ -23,7 +23,7 @@ room : (c : tie.Else1) → 0 < length (c .before .before .before .before .args .
 room c =
     let asked = c .before .before in
     let start = asked .before .before in
-    let none = none-holds (guards start) (refl, (refl, (refl, (refl, tt)))) (test-passes (guards start) (asked .use-refusal .ensures) (c .before .is-done .ensures) (c .if1 .left)) in
+    let none = none-holds (guards start) (refl, (refl, (refl, (refl, (refl, tt))))) (test-passes (guards start) (asked .use-refusal .ensures) (c .before .is-done .ensures) (c .if1 .left)) in
     omega (arith, wire-lent (length (start .args .wire .now)) (none .0))
 
 use-refusal-requires : tie.Need-use-refusal-requires
@@ -61,7 +61,7 @@ returns-2 c =
     let asked = go .before .before in
     let start = asked .before .before in
     rw (c .done .ensures .0)
-    (passed-on-wire (guards start) _ (asked .use-refusal .ensures) (go .before .is-done .ensures) (refl, (refl, (refl, (refl, tt)))) (go .if1 .left)
+    (passed-on-wire (guards start) _ (asked .use-refusal .ensures) (go .before .is-done .ensures) (refl, (refl, (refl, (refl, (refl, tt))))) (go .if1 .left)
     (done-on-wire (c .before .step .ensures) (met-step Clear met-same (wrote-start (start .args .x ∷ []) (start .args .wire .now) (room go))) (c .done .ensures .1)))
 
 pub use-macro-spec : {M : Type 1} → statement M

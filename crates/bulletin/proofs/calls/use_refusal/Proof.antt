@@ -1,7 +1,7 @@
 use mathlib.Core.Path.{sym, ap, _∙_}
 use mathlib.Core.Bool.{not}
 use Rattle.codes.specs.Answers.{refusalOf}
-use Rattle.sent_macros.proofs.Views.{accepted-bare}
+use Rattle.issues.proofs.Bare.{refusal-bare}
 use borrow.Author.Needs.{needs}
 use Rattle.bulletin.proofs.calls.use_refusal.Statement.{statement}
 use Rattle.bulletin.proofs.calls.use_refusal.Tie as tie
@@ -32,8 +32,8 @@ returns-3 c =
     let lent = on .before .before .before in
     rw (sym (lent .before .no-wire .ensures) ∙ lent .if1 .left, ap not (sym (on .before .macros-in-force .ensures)) ∙ on .if2 .left, sym (c .before .is-waiting .ensures) ∙ c .if3 .taken)
 
-is-accepted-requires : tie.Need-is-accepted-requires
-is-accepted-requires c κs = search needs
+use-refusal-requires : tie.Need-use-refusal-requires
+use-refusal-requires c κs = search needs
 
 returns-4 : tie.Need-returns-4
 unfolding refusalOf
@@ -42,16 +42,8 @@ returns-4 c =
     let on = ready .before .before .before in
     let lent = on .before .before .before in
     let a = lent .before .before .args in
-    rw (sym (lent .before .no-wire .ensures) ∙ lent .if1 .left, ap not (sym (on .before .macros-in-force .ensures)) ∙ on .if2 .left, sym (ready .before .is-waiting .ensures) ∙ ready .if3 .left, accepted-bare (a .t1 .table) (a .x) ∙ sym (c .before .is-accepted .ensures) ∙ c .if4 .taken)
-
-returns-5 : tie.Need-returns-5
-unfolding refusalOf
-returns-5 c =
-    let ready = c .before .before .before .before in
-    let on = ready .before .before .before in
-    let lent = on .before .before .before in
-    let a = lent .before .before .args in
-    rw (sym (lent .before .no-wire .ensures) ∙ lent .if1 .left, ap not (sym (on .before .macros-in-force .ensures)) ∙ on .if2 .left, sym (ready .before .is-waiting .ensures) ∙ ready .if3 .left, accepted-bare (a .t1 .table) (a .x) ∙ sym (c .before .is-accepted .ensures) ∙ c .if4 .left)
+    rw (sym (lent .before .no-wire .ensures) ∙ lent .if1 .left, ap not (sym (on .before .macros-in-force .ensures)) ∙ on .if2 .left, sym (ready .before .is-waiting .ensures) ∙ ready .if3 .left)
+    (c .use-refusal .ensures ∙ refusal-bare (a .t1 .table) (a .t1 .issues) (a .x))
 
 pub use-refusal-spec : {M : Type 1} → statement M
 use-refusal-spec =
@@ -63,6 +55,5 @@ use-refusal-spec =
     returns-2
     is-waiting-requires
     returns-3
-    is-accepted-requires
-    returns-4
-    returns-5)
+    use-refusal-requires
+    returns-4)

@@ -18,11 +18,18 @@ returns c =
 none-requires : tie.Need-none-requires
 none-requires c κs = search needs
 
+forget-requires : tie.Need-forget-requires
+forget-requires c κs = search needs
+
+with-macros-requires : tie.Need-with-macros-requires
+with-macros-requires c κs = search needs
+
 returns-2 : tie.Need-returns-2
 returns-2 c =
-    rw (c .before .before .before .moved .ensures, sym (c .before .before .is-yes .ensures) ∙ c .before .if1 .left)
-    (record { view = rw (c .none .ensures, free-view); clean = λ k. record { reader = k .reader; table = rw (c .none .ensures) free-clean } })
+    let none = c .before .before .before in
+    rw (c .with-macros .ensures, none .before .before .before .moved .ensures, sym (none .before .before .is-yes .ensures) ∙ none .before .if1 .left, c .before .forget .ensures)
+    (record { view = rw (none .none .ensures, free-view); clean = λ k. record { reader = k .reader; table = rw (none .none .ensures) free-clean } })
 
 pub macro-moved-spec : {M : Type 1} → statement M
 macro-moved-spec =
-    tie.close (tie.spec moved-requires is-yes-requires returns none-requires returns-2)
+    tie.close (tie.spec moved-requires is-yes-requires returns none-requires forget-requires with-macros-requires returns-2)

@@ -18,9 +18,9 @@ same-length c = search needs
 
 returns : tie.Need-returns
 returns c =
-    let call = c .before .before .before .before .before .before .before .before .before in
+    let call = c .before .before .before .before .before .before .before .before .before .before .before in
     let found = call .before .before in
-    let a = found .before .before .before .before .before .before .before .before .args in
+    let a = found .before .before .before .before .before .before .before .before .before .before .args in
     on-arrays-wire (λ t. askCall t (a .option) (a .way)) (found .decoded .ensures) (call .ask .ensures) (c .kept .ensures)
 
 pub prambow-bulletin-ask-arrays-spec : {M : Type 1} → statement M

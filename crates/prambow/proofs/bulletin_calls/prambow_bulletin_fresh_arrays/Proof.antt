@@ -14,7 +14,7 @@ store-requires c κs = search needs
 
 returns : tie.Need-returns
 returns c =
-    c .store .ensures ∙ ap encodedBulletin (c .before .before .before .before .before .before .before .fresh .ensures)
+    c .store .ensures ∙ ap encodedBulletin (c .before .before .before .before .before .before .before .before .before .fresh .ensures)
 
 pub prambow-bulletin-fresh-arrays-spec : {M : Type 1} → statement M
 prambow-bulletin-fresh-arrays-spec = tie.close (tie.spec fresh-requires store-requires returns)

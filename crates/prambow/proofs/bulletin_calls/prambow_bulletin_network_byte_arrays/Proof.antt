@@ -23,9 +23,9 @@ same-length-2 c = search needs
 
 returns : tie.Need-returns
 returns c =
-    let call = c .before .before .before .before .before .before .before .before .before .before .before in
+    let call = c .before .before .before .before .before .before .before .before .before .before .before .before .before in
     let found = call .before .before .before in
-    let a = found .before .before .before .before .before .before .before .before .before .args in
+    let a = found .before .before .before .before .before .before .before .before .before .before .before .args in
     on-arrays (λ t. networkCall t (a .b)) (found .decoded .ensures) (call .network-byte .ensures) (c .kept .ensures)
 
 pub prambow-bulletin-network-byte-arrays-spec : {M : Type 1} → statement M

@@ -24,7 +24,7 @@ returns : tie.Need-returns
 returns c =
     let test = c .before .before in
     let a = test .before .before .before .before .args in
-    let arrays = arraysOfBulletin (a .small .now) (a .counts .now) (a .body .now) (a .statuses .now) (a .marks .now) (a .cells .now) in
+    let arrays = arraysOfBulletin (a .small .now) (a .counts .now) (a .body .now) (a .statuses .now) (a .marks .now) (a .cells .now) (a .issue .now) (a .kept .now) in
     rw (c .run-outcome .ensures) (refines-refused arrays (a .bytes .now) (a .host .now) (a .wire .now) (sym (test .cannot-begin .ensures) ∙ c .before .if1 .taken))
 
 shared-slice-read-b : tie.Need-shared-slice-read-b
@@ -51,7 +51,7 @@ returns-2 c =
     let found = c .before .before in
     let begun = found .before .before .before .before in
     let a = begun .before .before .before .before .before .args in
-    let arrays = arraysOfBulletin (a .small .now) (a .counts .now) (a .body .now) (a .statuses .now) (a .marks .now) (a .cells .now) in
+    let arrays = arraysOfBulletin (a .small .now) (a .counts .now) (a .body .now) (a .statuses .now) (a .marks .now) (a .cells .now) (a .issue .now) (a .kept .now) in
     rw (c .run-outcome2 .ensures) (refines-one arrays (a .bytes .now) (a .host .now) (a .wire .now) (found .before .before .before .if2 .taken) (sym (begun .before .cannot-begin .ensures) ∙ begun .if1 .left) (sym (found .is-plain .ensures) ∙ c .before .if3 .taken))
 
 read-bytes-requires : tie.Need-read-bytes-requires
@@ -65,9 +65,9 @@ same-length-3 c = search needs
 
 returns-3 : tie.Need-returns-3
 returns-3 c =
-    let begun = c .before .before .before .before .before .before .before .before .before .before .before .before .before .before in
+    let begun = c .before .before .before .before .before .before .before .before .before .before .before .before .before .before .before .before in
     let a = begun .before .before .before .before .before .args in
-    let arrays = arraysOfBulletin (a .small .now) (a .counts .now) (a .body .now) (a .statuses .now) (a .marks .now) (a .cells .now) in
+    let arrays = arraysOfBulletin (a .small .now) (a .counts .now) (a .body .now) (a .statuses .now) (a .marks .now) (a .cells .now) (a .issue .now) (a .kept .now) in
     rw (run-begun lawful (viewArrays arrays) (a .bytes .now) (length (a .host .now)) (length (a .wire .now)) (sym (begun .before .cannot-begin .ensures) ∙ begun .if1 .left)) (c .before .before .before .before .read-bytes .ensures)
 
 pub prambow-bulletin-network-bytes-arrays-spec : {M : Type 1} → statement M

@@ -23,7 +23,7 @@ same-length c = search needs
 
 returns : tie.Need-returns
 returns c =
-    let call = c .before .before .before .before .before .before .before .before .before in
+    let call = c .before .before .before .before .before .before .before .before .before .before .before in
     let key = call .before .before in
     rw (← key .key-of-pair .ensures)
     (on-arrays-wire (λ t. textCall t (key .key-of-pair .result)) (key .before .decoded .ensures) (call .text-item .ensures) (c .kept .ensures))

@@ -23,10 +23,14 @@ values-in-requires c κs = search needs
 waits-in-requires : tie.Need-waits-in-requires
 waits-in-requires c κs = search needs
 
+element-copy-out-t30 : tie.Need-element-copy-out-t30
+element-copy-out-t30 c = search needs
+
 returns : tie.Need-returns
 returns c =
-    let read = c .before .before .before .before .before in
-    rw (c .waits-in .ensures, c .before .values-in .ensures, read .reader-of .ensures, read .before .before .before .before .sides-in .ensures)
+    let waits = c .before .before in
+    let read = waits .before .before .before .before .before in
+    rw (waits .waits-in .ensures, waits .before .values-in .ensures, read .reader-of .ensures, read .before .before .before .before .sides-in .ensures)
 
 pub decoded-spec : {M : Type 1} → statement M
 decoded-spec =
@@ -39,4 +43,5 @@ decoded-spec =
     reader-of-requires
     values-in-requires
     waits-in-requires
+    element-copy-out-t30
     returns)

@@ -8,14 +8,14 @@ use Rattle.session_arrays.proofs.bulletin_arrays.kept.Tie as tie
 code-number-requires : tie.Need-code-number-requires
 code-number-requires c κs = search needs
 
-cast-t13 : tie.Need-cast-t13
-cast-t13 c = search needs
+cast-t15 : tie.Need-cast-t15
+cast-t15 c = search needs
 
 note-number-requires : tie.Need-note-number-requires
 note-number-requires c κs = search needs
 
-cast-t15 : tie.Need-cast-t15
-cast-t15 c = search needs
+cast-t17 : tie.Need-cast-t17
+cast-t17 c = search needs
 
 is-done-requires : tie.Need-is-done-requires
 is-done-requires c κs = search needs
@@ -25,9 +25,9 @@ store-requires c κs = search needs
 
 returns : tie.Need-returns
 returns c =
-    let tested = c .before .before .before .before .before .before .before .before .before in
+    let tested = c .before .before .before .before .before .before .before .before .before .before .before in
     let code = tested .before .before in
-    let done : isDone (code .before .args .a .code) ≡ true = sym (tested .is-done .ensures) ∙ c .before .before .before .before .before .before .before .before .if1 .taken in
+    let done : isDone (code .before .args .a .code) ≡ true = sym (tested .is-done .ensures) ∙ c .before .before .before .before .before .before .before .before .before .before .if1 .taken in
     record {
       numbers = rw (code .code-number .ensures, tested .before .note-number .ensures);
       kept = rw done (c .store .ensures);
@@ -48,9 +48,9 @@ kept-spec =
     tie.close
     (tie.spec
     code-number-requires
-    cast-t13
-    note-number-requires
     cast-t15
+    note-number-requires
+    cast-t17
     is-done-requires
     store-requires
     returns

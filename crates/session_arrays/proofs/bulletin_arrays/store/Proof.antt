@@ -7,7 +7,7 @@ small-of-requires c κs = search needs
 
 returns : tie.Need-returns
 returns c =
-    rw (c .before .before .before .before .before .before .before .before .small-of .ensures)
+    rw (c .before .before .before .before .before .before .before .before .before .before .before .small-of .ensures)
 
 pub store-spec : {M : Type 1} → statement M
 store-spec = tie.close (tie.spec small-of-requires returns)

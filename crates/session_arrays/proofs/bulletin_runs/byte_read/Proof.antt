@@ -20,12 +20,12 @@ returns : tie.Need-returns
 returns c =
     let read = c .before .before .before .before .before .before .before .before .before in
     let a = read .before .before .before .before .before .before .args in
-    let arrays = arraysOfBulletin (a .small .now) (a .counts .now) (a .body .now) (a .statuses .now) (a .marks .now) (a .cells .now) in
+    let arrays = arraysOfBulletin (a .small .now) (a .counts .now) (a .body .now) (a .statuses .now) (a .marks .now) (a .cells .now) (a .issue .now) (a .kept .now) in
     byte-in-place (a .b) arrays (read .read-in-place .ensures) (c .before .before .before .before .if1 .taken) (c .put-in-place .ensures)
 
 read-by-value-requires : tie.Need-read-by-value-requires
 read-by-value-requires c κs =
-    let left = c .before .before .before .before .before .before .before .before in
+    let left = c .before .before .before .before .before .before .before .before .before .before in
     let read = left .before .before .before .before .before in
     let start = read .before .before .before .before .before .before in
     room-still (start .args .small .now) (start .args .b) (read .read-in-place .ensures) (left .if1 .left) (start .pre)
@@ -39,7 +39,7 @@ same-length-4 c = search needs
 returns-2 : tie.Need-returns-2
 returns-2 c =
     let value = c .before .before .before .before in
-    let left = value .before .before .before .before .before .before .before .before .before in
+    let left = value .before .before .before .before .before .before .before .before .before .before .before in
     let read = left .before .before .before .before .before in
     let start = read .before .before .before .before .before .before in
     read-then (start .args .small .now) (start .args .b) (read .read-in-place .ensures) (left .if1 .left) (value .read-by-value .ensures)

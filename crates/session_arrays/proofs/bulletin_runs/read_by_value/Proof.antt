@@ -20,9 +20,9 @@ same-length-2 c = search needs
 
 returns : tie.Need-returns
 returns c =
-    let call = c .before .before .before .before .before .before .before .before .before .before .before .before in
+    let call = c .before .before .before .before .before .before .before .before .before .before .before .before .before .before in
     let found = call .before .before .before in
-    let start = found .before .before .before .before .before .before .before .before .before in
+    let start = found .before .before .before .before .before .before .before .before .before .before .before in
     byte-by-value (start .args .b) (start .pre) (found .decoded .ensures) (call .network-byte .ensures) (c .store .ensures)
 
 pub read-by-value-spec : {M : Type 1} → statement M

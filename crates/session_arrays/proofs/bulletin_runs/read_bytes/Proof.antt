@@ -22,18 +22,18 @@ use Rattle.session_arrays.proofs.bulletin_runs.read_bytes.Statement.{st
 use Rattle.session_arrays.proofs.bulletin_runs.read_bytes.Tie as tie
 
 abbrev Inv-loop : tie.InvT-loop
-Inv-loop small₀ counts₀ body₀ statuses₀ marks₀ cells₀ bytes host₀ wire₀ i₀ p₀ w₀ small counts body statuses marks cells host wire i p w =
-    RunInvariant lawful viewArrays SoundBulletin (arraysOfBulletin small₀ counts₀ body₀ statuses₀ marks₀ cells₀) bytes (lentAs host₀ host) (lentAs wire₀ wire) (arraysOfBulletin small counts body statuses marks cells) i p w
+Inv-loop small₀ counts₀ body₀ statuses₀ marks₀ cells₀ issue₀ kept₀ bytes host₀ wire₀ i₀ p₀ w₀ small counts body statuses marks cells issue kept host wire i p w =
+    RunInvariant lawful viewArrays SoundBulletin (arraysOfBulletin small₀ counts₀ body₀ statuses₀ marks₀ cells₀ issue₀ kept₀) bytes (lentAs host₀ host) (lentAs wire₀ wire) (arraysOfBulletin small counts body statuses marks cells issue kept) i p w
 
 abbrev μ-loop : tie.MeasureT-loop
-μ-loop small₀ counts₀ body₀ statuses₀ marks₀ cells₀ bytes host₀ wire₀ i₀ p₀ w₀ small counts body statuses marks cells host wire i p w = length bytes - i
+μ-loop small₀ counts₀ body₀ statuses₀ marks₀ cells₀ issue₀ kept₀ bytes host₀ wire₀ i₀ p₀ w₀ small counts body statuses marks cells issue kept host wire i p w = length bytes - i
 
 -- the function's entry; a turn of the loop with room, and as far as a stretch was looked for
 abbrev entry : tie.At-loop Inv-loop μ-loop → tie.Start Inv-loop μ-loop
 entry a = a .before .before .before .before
 
 abbrev arrays : tie.At-loop Inv-loop μ-loop → BulletinArrays
-arrays a = let l = a .loop in arraysOfBulletin (l .small) (l .counts) (l .body) (l .statuses) (l .marks) (l .cells)
+arrays a = let l = a .loop in arraysOfBulletin (l .small) (l .counts) (l .body) (l .statuses) (l .marks) (l .cells) (l .issue) (l .kept)
 
 abbrev roomy : tie.After-plain-front Inv-loop μ-loop → tie.Else1 Inv-loop μ-loop
 roomy n = n .before .before .before .before
@@ -73,20 +73,20 @@ byte : tie.After-plain-front Inv-loop μ-loop → ℕ
 byte n = getD (entry (top n) .args .bytes .now) (top n .loop .i) 0
 
 abbrev before-read : tie.After-byte-read Inv-loop μ-loop → tie.After-plain-front Inv-loop μ-loop
-before-read c = c .before .before .before .before .before .before .before .before .before .before .before
+before-read c = c .before .before .before .before .before .before .before .before .before .before .before .before .before
 
 abbrev left : tie.After-byte-read Inv-loop μ-loop → BulletinArrays
-left c = arraysOfBulletin (c .byte-read .last .0) (c .byte-read .last .1 .0) (c .byte-read .last .1 .1 .0) (c .byte-read .last .1 .1 .1 .0) (c .byte-read .last .1 .1 .1 .1 .0) (c .byte-read .last .1 .1 .1 .1 .1 .0)
+left c = arraysOfBulletin (c .byte-read .last .0) (c .byte-read .last .1 .0) (c .byte-read .last .1 .1 .0) (c .byte-read .last .1 .1 .1 .0) (c .byte-read .last .1 .1 .1 .1 .0) (c .byte-read .last .1 .1 .1 .1 .1 .0) (c .byte-read .last .1 .1 .1 .1 .1 .1 .0) (c .byte-read .last .1 .1 .1 .1 .1 .1 .1 .0)
 
 was-read : (c : tie.After-byte-read Inv-loop μ-loop) → let a = top (before-read c) in let l = a .loop in let r = c .byte-read .result in
-    Stepped lawful viewArrays SoundBulletin (networkRead (viewArrays (arrays a)) (byte (before-read c))) (arrays a) (left c) (r .note) (lentAs (restOf (untouched (l .host)) (l .p)) (c .byte-read .last .1 .1 .1 .1 .1 .1 .1 .0)) (lentAs (restOf (untouched (l .wire)) (l .w)) (c .byte-read .last .1 .1 .1 .1 .1 .1 .1 .1 .0)) (r .first) (r .wire)
+    Stepped lawful viewArrays SoundBulletin (networkRead (viewArrays (arrays a)) (byte (before-read c))) (arrays a) (left c) (r .note) (lentAs (restOf (untouched (l .host)) (l .p)) (c .byte-read .last .1 .1 .1 .1 .1 .1 .1 .1 .1 .0)) (lentAs (restOf (untouched (l .wire)) (l .w)) (c .byte-read .last .1 .1 .1 .1 .1 .1 .1 .1 .1 .1 .0)) (r .first) (r .wire)
 unfolding byte
 was-read c = stepped (c .byte-read .ensures)
 
 loop-holds : tie.Need-loop-holds Inv-loop μ-loop
 loop-holds c =
     let a = c .before .before .before .args in
-    begun lawful viewArrays SoundBulletin (arraysOfBulletin (a .small .now) (a .counts .now) (a .body .now) (a .statuses .now) (a .marks .now) (a .cells .now)) (a .bytes .now) (a .host .now) (a .wire .now)
+    begun lawful viewArrays SoundBulletin (arraysOfBulletin (a .small .now) (a .counts .now) (a .body .now) (a .statuses .now) (a .marks .now) (a .cells .now) (a .issue .now) (a .kept .now)) (a .bytes .now) (a .host .now) (a .wire .now)
 
 sub-left : tie.Need-sub-left Inv-loop μ-loop
 sub-left c = first-in (c .before .loop .inv)
@@ -127,7 +127,7 @@ plain-front-requires : tie.Need-plain-front-requires Inv-loop μ-loop
 plain-front-requires c κs = search needs
 
 add-next : tie.Need-add-next Inv-loop μ-loop
-add-next c = omega (arith, inside (c .before), entry (top (c .before)) .good .1 .1 .1 .1 .1 .1 .0 .0)
+add-next c = omega (arith, inside (c .before), entry (top (c .before)) .good .1 .1 .1 .1 .1 .1 .1 .1 .0 .0)
 
 sub-put-bytes : tie.Need-sub-put-bytes Inv-loop μ-loop
 sub-put-bytes c = search needs
@@ -156,7 +156,7 @@ add-p : tie.Need-add-p Inv-loop μ-loop
 add-p c =
     let put = c .before .before in
     let n = put .before .before .before .before in
-    omega (arith, stretch-counted (top n .loop .inv) (room n) (reached n .reach .result) (n .plain-front .result) (reached n .reach .ensures) (short n) (plain n) (put .put-bytes .ensures), entry (top n) .good .1 .1 .1 .1 .1 .1 .1 .0 .0)
+    omega (arith, stretch-counted (top n .loop .inv) (room n) (reached n .reach .result) (n .plain-front .result) (reached n .reach .ensures) (short n) (plain n) (put .put-bytes .ensures), entry (top n) .good .1 .1 .1 .1 .1 .1 .1 .1 .1 .0 .0)
 
 loop-less : tie.Need-loop-less Inv-loop μ-loop
 loop-less c =
@@ -170,29 +170,29 @@ loop-again c =
     turn-stretch (top n .loop .inv) (room n) (reached n .reach .result) (n .plain-front .result) (reached n .reach .ensures) (short n) (plain n) (put .put-bytes .ensures)
 
 shared-slice-read-byte-read : tie.Need-shared-slice-read-byte-read Inv-loop μ-loop
-shared-slice-read-byte-read c = ahead (c .before .before .before .before .before .before .before .before)
+shared-slice-read-byte-read c = ahead (c .before .before .before .before .before .before .before .before .before .before)
 
 sub-byte-read : tie.Need-sub-byte-read Inv-loop μ-loop
-sub-byte-read c = first-in (top (c .before .before .before .before .before .before .before .before) .loop .inv)
+sub-byte-read c = first-in (top (c .before .before .before .before .before .before .before .before .before .before) .loop .inv)
 
 part-byte-read-start : tie.Need-part-byte-read-start Inv-loop μ-loop
-part-byte-read-start c = first-in (top (c .before .before .before .before .before .before .before .before) .loop .inv)
+part-byte-read-start c = first-in (top (c .before .before .before .before .before .before .before .before .before .before) .loop .inv)
 
 part-byte-read-end : tie.Need-part-byte-read-end Inv-loop μ-loop
 part-byte-read-end c = search needs
 
 sub-byte-read-2 : tie.Need-sub-byte-read-2 Inv-loop μ-loop
-sub-byte-read-2 c = wire-in (top (c .before .before .before .before .before .before .before .before .before) .loop .inv)
+sub-byte-read-2 c = wire-in (top (c .before .before .before .before .before .before .before .before .before .before .before) .loop .inv)
 
 part-byte-read-start-2 : tie.Need-part-byte-read-start-2 Inv-loop μ-loop
-part-byte-read-start-2 c = wire-in (top (c .before .before .before .before .before .before .before .before .before) .loop .inv)
+part-byte-read-start-2 c = wire-in (top (c .before .before .before .before .before .before .before .before .before .before .before) .loop .inv)
 
 part-byte-read-end-2 : tie.Need-part-byte-read-end-2 Inv-loop μ-loop
 part-byte-read-end-2 c = search needs
 
 byte-read-requires : tie.Need-byte-read-requires Inv-loop μ-loop
 byte-read-requires c κs =
-    let n = c .before .before .before .before .before .before .before .before .before .before in
+    let n = c .before .before .before .before .before .before .before .before .before .before .before .before in
     let l = top n .loop in
     room-in-rests (untouched (l .host)) (untouched (l .wire)) (l .p) (l .w) (room n)
 
@@ -201,19 +201,19 @@ unfolding byte
 add-p-2 c =
     let read = c .before .before .before .before .before in
     let n = before-read read in
-    omega (arith, first-counted (top n .loop .inv) (room n) (byte n) (byte-fits (viewArrays (arrays (top n))) (byte n)) (ahead n) refl (was-read read), entry (top n) .good .1 .1 .1 .1 .1 .1 .1 .0 .0)
+    omega (arith, first-counted (top n .loop .inv) (room n) (byte n) (byte-fits (viewArrays (arrays (top n))) (byte n)) (ahead n) refl (was-read read), entry (top n) .good .1 .1 .1 .1 .1 .1 .1 .1 .1 .0 .0)
 
 add-w : tie.Need-add-w Inv-loop μ-loop
 unfolding byte
 add-w c =
     let read = c .before .before .before .before .before .before in
     let n = before-read read in
-    omega (arith, wire-counted (top n .loop .inv) (room n) (byte n) (byte-fits (viewArrays (arrays (top n))) (byte n)) (ahead n) refl (was-read read), entry (top n) .good .1 .1 .1 .1 .1 .1 .1 .1 .0 .0)
+    omega (arith, wire-counted (top n .loop .inv) (room n) (byte n) (byte-fits (viewArrays (arrays (top n))) (byte n)) (ahead n) refl (was-read read), entry (top n) .good .1 .1 .1 .1 .1 .1 .1 .1 .1 .1 .0 .0)
 
 add-i : tie.Need-add-i Inv-loop μ-loop
 add-i c =
     let n = before-read (c .before .before .before .before .before .before) in
-    omega (arith, ahead n, entry (top n) .good .1 .1 .1 .1 .1 .1 .0 .0)
+    omega (arith, ahead n, entry (top n) .good .1 .1 .1 .1 .1 .1 .1 .1 .0 .0)
 
 is-clear-requires : tie.Need-is-clear-requires Inv-loop μ-loop
 is-clear-requires c κs = search needs
