@@ -1,10 +1,14 @@
 // A key of the printer end's keyboard, and an item of the bulletin end's text.
 ghost use mathlib.Core.Path.{_≡_};
 ghost use Rattle.lists.specs.Buffers.{lent, WroteAtStart, RoomFor};
-ghost use Rattle.keys.specs.Keys.{badCommand, classOf, keyClass, classBit, inClasses, isCommand, prints, keyPaper};
+ghost use Rattle.keys.specs.Keys.{badCommand, keyClass, classBit, inClasses, isCommand, prints, keyPaper};
 ghost use Rattle.keys.specs.Refinement.{keyNumber, keyOfNumber};
 use codes::CR;
 use codes::LF;
+
+mod classes;
+
+pub use classes::class_of;
 
 // Char and Line are typed characters; a Command is one of Telnet's codes 241 to 249.
 pub enum Key {
@@ -22,23 +26,6 @@ pub fn bad_command(k: Key) -> bool
         Key::Line => false,
         Key::Command(c) => !codes::plain_command(c),
     }
-}
-
-// RFC 726's class of a byte, 0 for none: a digit for each byte, 32 to a row.
-pub fn class_of(b: u8) -> u8
-    ensures { λ r. ⌜ r ≡ classOf b ⌝ }
-{
-    let classes = b"\
-        55555555444444555555555555555555\
-        96888888778868683333333333667876\
-        81111111111111111111111111178788\
-        82222222222222222222222222278785\
-        00000000000000000000000000000000\
-        00000000000000000000000000000000\
-        00000000000000000000000000000000\
-        00000000000000000000000000000000";
-    let at = b as usize;
-    classes[at] - b'0'
 }
 
 pub fn key_class(k: Key) -> u8

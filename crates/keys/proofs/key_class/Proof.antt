@@ -3,7 +3,7 @@ use Rattle.keys.proofs.key_class.Statement.{statement}
 use Rattle.keys.proofs.key_class.Tie as tie
 use Rattle.keys.proofs.key_class.Reads as reads
 use Rattle.keys.proofs.key_class.Lts as lts
-use Rattle.keys.proofs.class_of.Reads as class-of-reads
+use Rattle.keys.proofs.classes.class_of.Reads as class-of-reads
 
 enum-known-k : tie.Need-enum-known-k
 enum-known-k c = search needs

@@ -5,7 +5,7 @@ use Rattle.keys.proofs.prints.Statement.{statement}
 use Rattle.keys.proofs.prints.Tie as tie
 use Rattle.keys.proofs.prints.Reads as reads
 use Rattle.keys.proofs.prints.Lts as lts
-use Rattle.keys.proofs.class_of.Reads as class-of-reads
+use Rattle.keys.proofs.classes.class_of.Reads as class-of-reads
 
 class-of-requires : tie.Need-class-of-requires
 class-of-requires c κs = search needs
