@@ -1,4 +1,5 @@
-/* Prambow: the two ends of a Telnet line, proved, for a host in C. Link libprambow.a, which `rt staticlib prambow` writes.
+/* Prambow: the two ends of a Telnet line, proved, for a host in C. Link libprambow_c.a, which
+ * `rt lib` in crates/prambow_c leaves in out.
  *
  * A session is one record, which the host keeps: a prambow_printer or a prambow_bulletin. A call takes a pointer to it, its
  * arguments, and buffers for what it writes. It returns a code, a note, and how many bytes stand at the start of each buffer.

@@ -1,6 +1,6 @@
-//! Prambow's two ends for a host in Rust: safe calls over libprambow.a, which `rt staticlib prambow` writes. The codes, notes
-//! and other numbers are those of prambow.h, with a line on each there. A refused call leaves the session and the buffers as
-//! they were; every session is a state, so no call can be made wrongly.
+//! Prambow's two ends for a host in Rust: safe calls over libprambow_c.a, which `rt lib` in crates/prambow_c leaves in
+//! out. The codes, notes and other numbers are those of prambow.h, with a line on each there. A refused call
+//! leaves the session and the buffers as they were; every session is a state, so no call can be made wrongly.
 #![allow(dead_code)]
 
 pub const PAPER_ROOM: usize = 1024;

@@ -18,11 +18,12 @@ PART = 250  # terms to a definition: a long list is written as a sum of short on
 MOST = 1024  # bytes to a line
 SHORT = 300  # bytes of a tape that computes quickly
 
-FUNCTION = re.compile(r'^(#\[no_mangle\]\n)?(pub )?(extern "C" )?fn .*?^\}\n', re.M | re.S)
+FUNCTION = re.compile(r'^(#\[([^][]|\[[^]]*\])*\]\n)*(pub )?(extern "C" )?fn .*?^\}\n', re.M | re.S)
 GHOST = re.compile(r"^ghost use [^;]*;\n", re.M)
-PASSED_ON = re.compile(r"^(pub use \w+|use (crate|super)(::\w+)*)::[a-z]\w*;\n", re.M)  # a function, or a module of them, that is named
-ABOVE = re.compile(r"^use Rattle·(?!lists\.|%s·)\w+\.proofs\." % CLAIMS, re.M)  # a proof about other crates' proofs
-ERROR = re.compile(r"^\S*/crates/(\w+)/(specs|proofs)/(\S+?)\.antt:\d+:\d+: error: `([^`]+)`(.*(?:\n  .*)*)", re.M)
+PASSED_ON = re.compile(r"^(pub use \w+|use (?:crate|super)(?:::\w+)*)::(\w+|\{[^}]*\});\n", re.M)
+ABOVE = re.compile(r"^use Rattle\.(?!lists\.|%s\.)\w+\.proofs\." % CLAIMS, re.M)  # a proof about other crates' proofs
+HERE = re.compile(r"^\./(?=(specs|proofs)/)", re.M)  # how the check of a crate begins the name of a file of the crate's own
+ERROR = re.compile(r"^crates/(\w+)/(specs|proofs)/(\S+?)\.antt:\d+:\d+: error: `([^`]+)`(.*(?:\n  .*)*)", re.M)
 
 STATUSES = ["free", "pending", "pending as itself", "accepted", "refused"]
 HANDLERS = ["receiver", "sender"]
@@ -79,7 +80,7 @@ class Tape:
     def claims(self, prefix):
         tape, lines, name = "tape" + prefix, "lines" + prefix, "agrees" + prefix
         text = definition(tape, "ℕ", ["%d" % b for b in self.tape]) + definition(lines, "ℕ", ["%d" % b for b in self.lines])
-        yield name, text + claim(name, "bytesDifference 1 (tapeOutput %s) %s" % (tape, lines), "tapeRules"), "the lines"
+        yield name, text + claim(name, "bytes_difference 1 (tape_output %s) %s" % (tape, lines), "tape_rules"), "the lines"
 
 
 class Capture:
@@ -99,10 +100,10 @@ class Capture:
     def claims(self, prefix):
         names = {file: file + prefix for file in self.files}
         shared = "".join(definition(names[f], "ℕ", ["%d" % b for b in self.files[f]]) for f in names)
-        rule = {"mended": ("mended %(capture)s", "the mended capture"), "lines": ("linesOf (drops %(capture)s)", "the lines")}
+        rule = {"mended": ("mended %(capture)s", "the mended capture"), "lines": ("lines_of (drops %(capture)s)", "the lines")}
         for file, (given, what) in rule.items():
             name = "agrees-%s%s" % (file, prefix)
-            yield name, shared + claim(name, "bytesDifference 1 (%s) %s" % (given % names, names[file]), "mendingRules"), what
+            yield name, shared + claim(name, "bytes_difference 1 (%s) %s" % (given % names, names[file]), "mending_rules"), what
             shared = ""
 
 
@@ -139,16 +140,16 @@ def definition(name, kind, terms):
 
 
 def claim(name, test, rules):
-    return "%s : %s ≡ 0\nunfolding sameBytes firstDifference bytesDifference %s\n%s = refl\n\n" % (name, test, rules, name)
+    return "%s : %s ≡ 0\nunfolding same_bytes first_difference bytes_difference %s\n%s = refl\n\n" % (name, test, rules, name)
 
 
 def session_claim(name, end, calls):
     """That a session of an end gives the answers listed with its calls."""
-    kind, lines, rules = {"P": ("PrinterLine", "printerLines P.fresh", "printerRules printerLines"),
-                          "B": ("BulletinLine", "bulletinLines B.fresh", "bulletinRules bulletinLines")}[end]
+    kind, lines, rules = {"P": ("PrinterLine", "printer_lines P.fresh", "printer_rules printer_lines"),
+                          "B": ("BulletinLine", "bulletin_lines B.fresh", "bulletin_rules bulletin_lines")}[end]
     terms, answers, _ = zip(*calls)
     text = definition("calls" + name, kind, ["%s.%s" % (kind, t) for t in terms]) + definition("answers" + name, "Shown", answers)
-    return text + claim("agrees" + name, "firstDifference 1 (%s calls%s) answers%s" % (lines, name, name), rules)
+    return text + claim("agrees" + name, "first_difference 1 (%s calls%s) answers%s" % (lines, name, name), rules)
 
 
 def shown(code, note, paper, wire, waiting):
@@ -171,7 +172,7 @@ def call_term(end, call, b, paper, wire):
         return "call (%s %d %d)" % (form[call](), paper, wire)
     form = {"net": lambda: "BS.network %d %d" % (b[0], paper), "ask": lambda: "BS.ask %d %d" % (b[0], b[1]),
             "suggest": lambda: "BS.suggest %d %d" % (b[0], b[1]), "order": lambda: "BS.order %d %d %d" % (b[0], b[1], b[2]),
-            "define": lambda: "BS.define %d (%s)" % (b[0], numbers(b[1:])), "use": lambda: "BS.useMacro %d" % b[0],
+            "define": lambda: "BS.define %d (%s)" % (b[0], numbers(b[1:])), "use": lambda: "BS.use_macro %d" % b[0],
             "text": lambda: "BS.text %s" % key_term(*b), "issue": lambda: "BS.issue %d" % b[0]}
     return "call (%s %d)" % (form[call](), wire)
 
@@ -360,20 +361,20 @@ def shipped():
 # The rules alone
 
 
-HEAD = """use mathlib.Core.Path.{_≡_, refl}
-use mathlib.Core.List.{List, [], _∷_, _++_}
+HEAD = """use mathlib.Core.Path.{◌≡◌, refl}
+use mathlib.Core.List.{List, [], ◌∷◌, ◌++◌}
 use Prim.Native.Nat.{ℕ}
-use Rattle·keys.specs.declared.Key.the-variants.{Char, Line, Command}
-use Rattle·printer.specs.State as P
-use Rattle·printer.specs.Session as PS
-use Rattle·bulletin.specs.State as B
-use Rattle·bulletin.specs.Session as BS
-use Rattle·tape.specs.Running.{tapeOutput}
-use Rattle·mending.specs.Mending.{mended, drops, linesOf}
-use Rattle·%(crate)s·specs.specs.Opened.{printerRules, tapeRules}
-use Rattle·%(crate)s·specs.specs.OpenedBulletin.{bulletinRules}
-use Rattle·%(crate)s·specs.specs.OpenedMending.{mendingRules}
-use Rattle·%(crate)s·specs.specs.Showing.{Shown, show, told, PrinterLine, BulletinLine, printerLines, bulletinLines, sameBytes, firstDifference, bytesDifference}
+use Rattle.keys.specs.declared.Key.TheVariants.{Char, Line, Command}
+use Rattle.printer.specs.State as P
+use Rattle.printer.specs.Session as PS
+use Rattle.bulletin.specs.State as B
+use Rattle.bulletin.specs.Session as BS
+use Rattle.tape.specs.Running.{tape_output}
+use Rattle.mending.specs.Mending.{mended, drops, lines_of}
+use Rattle.%(crate)s.specs.Opened.{printer_rules, tape_rules}
+use Rattle.%(crate)s.specs.OpenedBulletin.{bulletin_rules}
+use Rattle.%(crate)s.specs.OpenedMending.{mending_rules}
+use Rattle.%(crate)s.specs.Showing.{Shown, show, told, PrinterLine, BulletinLine, printer_lines, bulletin_lines, same_bytes, first_difference, bytes_difference}
 
 """ % {"crate": CLAIMS}
 
@@ -381,7 +382,7 @@ use Rattle·%(crate)s·specs.specs.Showing.{Shown, show, told, PrinterLine, Bull
 def crates():
     """The crates in the order of crates.txt, with what each depends on."""
     lines = [l.split("#")[0] for l in open(os.path.join(ROOT, "crates.txt"))]
-    return {n.strip(): d.split() for n, _, d in (l.partition(":") for l in lines) if n.strip()}
+    return {n.split()[0]: d.split() for n, _, d in (l.partition(":") for l in lines) if n.strip()}
 
 
 def rewritten(path, change):
@@ -393,7 +394,15 @@ def rewritten(path, change):
 def copied(place):
     os.mkdir(place)
     shutil.copy(os.path.join(ROOT, "crates.txt"), place)
-    shutil.copytree(os.path.join(ROOT, "crates"), os.path.join(place, "crates"), ignore=shutil.ignore_patterns("must-fail"))
+    shutil.copytree(os.path.join(ROOT, "crates"), os.path.join(place, "crates"), ignore=shutil.ignore_patterns("must-fail", "out"))
+
+
+def without_functions(text):
+    """A source without its functions, and without what brings them in: clauses' imports, and names in lower case."""
+    def types(m):
+        names = [n for n in re.findall(r"\w+", m[2]) if not n[0].islower()]
+        return "%s::{%s};\n" % (m[1], ", ".join(names)) if names else ""
+    return PASSED_ON.sub(types, GHOST.sub("", FUNCTION.sub("", text)))
 
 
 def alone(place, kept=()):
@@ -404,7 +413,7 @@ def alone(place, kept=()):
         if name not in kept:
             shutil.rmtree(os.path.join(crate, "proofs"), ignore_errors=True)
         for file in os.listdir(os.path.join(crate, "src")):
-            rewritten(os.path.join(crate, "src", file), lambda text: PASSED_ON.sub("", GHOST.sub("", FUNCTION.sub("", text))))
+            rewritten(os.path.join(crate, "src", file), without_functions)
     proofs = os.path.join(place, "crates", CLAIMS, "proofs")
     for file in os.listdir(proofs) if os.path.isdir(proofs) else []:
         if ABOVE.search(open(os.path.join(proofs, file)).read()):
@@ -434,13 +443,16 @@ def put_claims(place, texts, alone):
         out.write("mod Lists\n")
 
 
-def check(place, *names):
-    """Whether the crates pass, and what the check says."""
-    run = subprocess.run(["rt", "check", *names], cwd=place, stdout=subprocess.PIPE, stderr=subprocess.STDOUT, text=True,
-                         env={"RT_JOBS": "2", **os.environ, "RT_CUT": "0"})
+JOBS = 2  # of a check
+
+
+def check(place, name):
+    """Whether a crate passes, with those below it, and what the check says."""
+    run = subprocess.run(["rt", "check", "--jobs", "%d" % JOBS], cwd=os.path.join(place, "crates", name), stdout=subprocess.PIPE, stderr=subprocess.STDOUT, text=True)
     if run.returncode not in (0, 1):
-        raise SystemExit("rt check %s: exit status %d\n%s" % (" ".join(names), run.returncode, run.stdout[-2000:]))
-    return run.returncode == 0, run.stdout
+        raise SystemExit("rt check in %s: exit status %d\n%s" % (name, run.returncode, run.stdout[-2000:]))
+    below = re.search(r"^rt: the library (\w+) did not build", run.stdout, re.M)
+    return run.returncode == 0, HERE.sub("crates/%s/" % (below[1] if below else name), run.stdout)
 
 
 def errors(output):

@@ -1,29 +1,31 @@
 // Makes as many calls of the printer end as the first argument says, to be timed from outside. The second argument's
 // first letter says which: n network bytes, b runs of 65,536 of them, u the same with a macro defined, m a macro's byte, k
 // keys sent at once, r keys under RCTE, w commands of RCTE that take up 256 keys, a asks; without one each in turn.
+#![tactic(auto)]
+
 ghost use Rattle.std.specs.Prelude.{◌≤◌};
 
 use keys::Key;
-use libc::STDOUT_FILENO;
 use printer::{Printer, calls};
+use std::env::Env;
 
-fn say(text: &[u8]) {
-    io::write_all(STDOUT_FILENO, text);
+fn say(rt: &impl Print, text: &[u8]) {
+    let _ = rt.write_all(text);
 }
 
-fn say_done(what: &[u8], calls: usize, bytes: u64) {
-    say(what);
-    say(b": ");
-    io::print_decimal(STDOUT_FILENO, calls as u64);
-    say(b" calls, ");
-    io::print_decimal(STDOUT_FILENO, bytes);
-    say(b" bytes written\n");
+fn say_done(rt: &impl Print, what: &[u8], calls: usize, bytes: u64) {
+    say(rt, what);
+    say(rt, b": ");
+    let _ = rt.print(calls);
+    say(rt, b" calls, ");
+    let _ = rt.print(bytes);
+    say(rt, b" bytes written\n");
 }
 
 // The bytes that a call wrote, added up. The sum is printed, so that no call can be left out as unused.
 fn more(sum: u64, paper: usize, wire: usize) -> u64 {
-    let s = std::num::wrapping_add_u64(sum, paper as u64);
-    std::num::wrapping_add_u64(s, wire as u64)
+    let s = sum.wrapping_add(paper as u64);
+    s.wrapping_add(wire as u64)
 }
 
 // The state after those bytes from the network. The program's own argument is among them, so that the compiler cannot
@@ -130,20 +132,20 @@ fn asks(s: Printer, times: usize, paper: &mut [u8], wire: &mut [u8]) -> u64 {
     sum
 }
 
-fn run_network(s: Printer, times: usize) {
+fn run_network(rt: &impl Print, s: Printer, times: usize) {
     let mut paper = [0u8; 1024];
     let mut wire = [0u8; 4096];
     let bytes = network_bytes(s, times, &mut paper, &mut wire);
-    say_done(b"network bytes", times, bytes);
+    say_done(rt, b"network bytes", times, bytes);
 }
 
 // Plain text, each run in a buffer that takes all of it.
-fn run_runs(s: Printer, times: usize, what: &[u8]) {
+fn run_runs(rt: &impl Print, s: Printer, times: usize, what: &[u8]) {
     let bytes = [b'e'; 65536];
     let mut paper = [0u8; 66560];
     let mut wire = [0u8; 4096];
     let sum = runs(s, &bytes, times, &mut paper, &mut wire);
-    say_done(what, times, sum);
+    say_done(rt, what, times, sum);
 }
 
 // BM in force, and byte 128 defined as 200 letters.
@@ -161,48 +163,48 @@ fn with_macro(s: Printer) -> Printer {
     heard(t, &define)
 }
 
-fn run_unmarked_runs(s: Printer, times: usize) {
+fn run_unmarked_runs(rt: &impl Print, s: Printer, times: usize) {
     let t = with_macro(s);
-    run_runs(t, times, b"runs with a macro defined");
+    run_runs(rt, t, times, b"runs with a macro defined");
 }
 
-fn run_macros(s: Printer, times: usize) {
+fn run_macros(rt: &impl Print, s: Printer, times: usize) {
     let t = with_macro(s);
     let mut paper = [0u8; 1024];
     let mut wire = [0u8; 4096];
     let sum = runs(t, &[128], times, &mut paper, &mut wire);
-    say_done(b"macros", times, sum);
+    say_done(rt, b"macros", times, sum);
 }
 
 // RCTE's command that ends the hold, each time on the same state, in which 256 keys wait.
-fn run_commands(s: Printer, times: usize) {
+fn run_commands(rt: &impl Print, s: Printer, times: usize) {
     let t = heard(s, &[255, 251, 7]);
     let u = with_waiting(t);
     let v = heard(u, &[255, 250, 7, 1, 255]);
     let mut paper = [0u8; 1024];
     let mut wire = [0u8; 4096];
     let sum = commands(v, times, &mut paper, &mut wire);
-    say_done(b"commands with 256 keys", times, sum);
+    say_done(rt, b"commands with 256 keys", times, sum);
 }
 
-fn run_keys(s: Printer, times: usize, what: &[u8]) {
+fn run_keys(rt: &impl Print, s: Printer, times: usize, what: &[u8]) {
     let mut paper = [0u8; 1024];
     let mut wire = [0u8; 4096];
     let bytes = keys(s, times, &mut paper, &mut wire);
-    say_done(what, times, bytes);
+    say_done(rt, what, times, bytes);
 }
 
-fn run_asks(s: Printer, times: usize) {
+fn run_asks(rt: &impl Print, s: Printer, times: usize) {
     let mut paper = [0u8; 1024];
     let mut wire = [0u8; 4096];
     let bytes = asks(s, times, &mut paper, &mut wire);
-    say_done(b"asks", times, bytes);
+    say_done(rt, b"asks", times, bytes);
 }
 
 // RCTE in force and nothing held: keys are printed and gathered.
-fn run_rcte_keys(s: Printer, times: usize) {
+fn run_rcte_keys(rt: &impl Print, s: Printer, times: usize) {
     let t = heard(s, &[255, 251, 7, 255, 250, 7, 1, 255, 240]);
-    run_keys(t, times, b"keys under RCTE");
+    run_keys(rt, t, times, b"keys under RCTE");
 }
 
 // A digit's value, 10 for a byte that is none.
@@ -236,40 +238,40 @@ fn number(text: &[u8]) -> usize {
     n
 }
 
-fn kind_asked() -> u8 {
+fn kind_asked(rt: &impl Env) -> u8 {
     let mut text = [0u8; 16];
-    os::arg(2, &mut text);
+    let _ = streams::arg(rt, 2, &mut text);
     text[0]
 }
 
-fn run(s: Printer, times: usize) {
-    match kind_asked() {
-        b'n' => run_network(s, times),
-        b'b' => run_runs(s, times, b"runs of network bytes"),
-        b'u' => run_unmarked_runs(s, times),
-        b'm' => run_macros(s, times),
-        b'k' => run_keys(s, times, b"keys"),
-        b'r' => run_rcte_keys(s, times),
-        b'w' => run_commands(s, times),
-        b'a' => run_asks(s, times),
+fn run(rt: &(impl Env + Print), s: Printer, times: usize) {
+    match kind_asked(rt) {
+        b'n' => run_network(rt, s, times),
+        b'b' => run_runs(rt, s, times, b"runs of network bytes"),
+        b'u' => run_unmarked_runs(rt, s, times),
+        b'm' => run_macros(rt, s, times),
+        b'k' => run_keys(rt, s, times, b"keys"),
+        b'r' => run_rcte_keys(rt, s, times),
+        b'w' => run_commands(rt, s, times),
+        b'a' => run_asks(rt, s, times),
         _ => {
-            run_network(s, times);
-            run_runs(s, times, b"runs of network bytes");
-            run_unmarked_runs(s, times);
-            run_macros(s, times);
-            run_keys(s, times, b"keys");
-            run_rcte_keys(s, times);
-            run_commands(s, times);
-            run_asks(s, times);
+            run_network(rt, s, times);
+            run_runs(rt, s, times, b"runs of network bytes");
+            run_unmarked_runs(rt, s, times);
+            run_macros(rt, s, times);
+            run_keys(rt, s, times, b"keys");
+            run_rcte_keys(rt, s, times);
+            run_commands(rt, s, times);
+            run_asks(rt, s, times);
         }
     }
 }
 
-fn main() {
+fn main(rt: HostRuntime) {
     let mut text = [0u8; 16];
-    let n = os::arg(1, &mut text);
+    let n = streams::arg(&rt, 1, &mut text).unwrap_or(0);
     let times = number(&text[..n]);
     let fresh = calls::fresh();
     let s = heard(fresh, &text[..n]);
-    run(s, times);
+    run(&rt, s, times);
 }

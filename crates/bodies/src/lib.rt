@@ -1,4 +1,6 @@
 // The parsed bodies of RCTE, BM and the options about output disposition. One case of each is for a body of the wrong shape.
+#![tactic(auto)]
+
 ghost use Rattle.std.specs.Prelude.{◌≡◌, true, cond, ◌+◌, ◌<◌, length};
 ghost use Rattle.bodies.specs.RcteBodies.{bit, sets_breaks, sets_sends, action_of, pair_at, classes_at, rcte_length, performed, rcte_body};
 ghost use Rattle.bodies.specs.MacroBodies.{macro_body, reply_body};
@@ -19,60 +21,60 @@ const SETS_SENDS: u8 = 16;
 const ALL_BITS: u8 = 31;
 
 // Which keys are not printed: break characters, and text up to them.
-#[derive(Drop)]
+#[derive(Clone, Copy)]
 pub struct Action {
     pub skipbreak: bool,
     pub skiptext: bool,
 }
 
 // A class pair of a command, read as one number with its first byte high.
-#[derive(Drop)]
+#[derive(Clone, Copy)]
 pub enum Classes {
     Same,
     New(u16),
 }
 
-#[derive(Drop)]
+#[derive(Clone, Copy)]
 pub enum RcteCommand {
     Repeat,
     Perform(Action, Classes, Classes),
 }
 
-#[derive(Drop)]
+#[derive(Clone, Copy)]
 pub enum RcteBody {
     Readable(RcteCommand),
     Unreadable,
 }
 
 // What the printer end takes of BM; a DEFINE's count and string stay in the body, from its fourth byte on.
-#[derive(Drop)]
+#[derive(Clone, Copy)]
 pub enum MacroCommand {
     Define(u8),
     Literal(u8),
 }
 
-#[derive(Drop)]
+#[derive(Clone, Copy)]
 pub enum MacroBody {
     Readable(MacroCommand),
     Unreadable,
 }
 
 // What the bulletin end takes of BM.
-#[derive(Drop)]
+#[derive(Clone, Copy)]
 pub enum MacroReply {
     Accept(u8),
     Refuse(u8),
     PleaseCancel(u8),
 }
 
-#[derive(Drop)]
+#[derive(Clone, Copy)]
 pub enum ReplyBody {
     Readable(MacroReply),
     Unreadable,
 }
 
 // A value that is suggested.
-#[derive(Drop)]
+#[derive(Clone, Copy)]
 pub enum ValueBody {
     Readable(u8),
     Unreadable,
@@ -175,6 +177,7 @@ pub fn rcte_body(body: &[u8]) -> RcteBody
     RcteBody::Readable(perform(cmd, body))
 }
 
+#[tactic(auto, unfolding(crate::specs::MacroBodies::macro_body))]
 pub fn macro_body(body: &[u8]) -> MacroBody
     ensures { result ≡ macro_body body.now }
 {

@@ -9,10 +9,8 @@ use Rattle.negotiation.specs.declared.Side.TheVariants.{Echo, BulletinSga, Rcte,
 use Rattle.negotiation.specs.Carried.{moved}
 use Rattle.negotiation.specs.Apart.{Reached}
 use Rattle.negotiation.specs.Apart.Reached.{first}
-use Rattle.bodies.specs.declared.MacroReply.{MacroReply}
-use Rattle.bodies.specs.declared.MacroReply.TheVariants.{Accept, Refuse, PleaseCancel}
 use Rattle.bulletin.specs.State.{BulletinState, fresh}
-use Rattle.bulletin.specs.Network.{side_moved, macro_replied}
+use Rattle.bulletin.specs.Network.{side_moved}
 use Rattle.bulletin.specs.Apart.{StayApart}
 use Rattle.negotiation.proofs.Apart as N
 use Rattle.bulletin.proofs.Invariant.{Steps, answers_kept}

@@ -9,7 +9,7 @@ use negotiation::{End, Side, Sides};
 use reader::{Item, Phase};
 
 // The parts after a byte, and how many bytes went to the host and to the wire. One that needs the rest of the state is not handled.
-#[derive(Drop)]
+#[derive(Clone, Copy)]
 pub struct InPlace {
     pub handled: bool,
     pub sides: Sides,

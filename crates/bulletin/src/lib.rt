@@ -1,4 +1,6 @@
 // The bulletin end: the serving host. One state by value, and its calls.
+#![tactic(auto)]
+
 use codes::{Code, Note};
 use disposition::{AllValues, Waits};
 use issues::Issues;
@@ -17,7 +19,7 @@ pub mod stretches;
 
 // The whole state: negotiation, reader, macros, the values about output disposition, for which options output waits
 // (254), and the forecast issue with those that the definitions kept.
-#[derive(Drop)]
+#[derive(Clone, Copy)]
 pub struct Bulletin {
     pub sides: Sides,
     pub reader: Reader,
@@ -28,7 +30,7 @@ pub struct Bulletin {
 }
 
 // A step: its note, how many bytes went to the host and to the wire, and the state after it.
-#[derive(Drop)]
+#[derive(Clone, Copy)]
 pub struct Step {
     pub note: Note,
     pub host: usize,
@@ -37,7 +39,7 @@ pub struct Step {
 }
 
 // A call's answer.
-#[derive(Drop)]
+#[derive(Clone, Copy)]
 pub struct Answer {
     pub code: Code,
     pub note: Note,
@@ -47,7 +49,7 @@ pub struct Answer {
 }
 
 // The answer of a run of network bytes: a call's, with how many bytes were taken.
-#[derive(Drop)]
+#[derive(Clone, Copy)]
 pub struct RunAnswer {
     pub code: Code,
     pub note: Note,
@@ -59,7 +61,7 @@ pub struct RunAnswer {
 
 // How the last DEFINE of a byte stands, the issue that it kept, and the issue in force. A use of the byte needs an accepted text and
 // two equal numbers.
-#[derive(Drop)]
+#[derive(Clone, Copy)]
 pub struct Standing {
     pub status: Status,
     pub kept: u16,
@@ -67,7 +69,7 @@ pub struct Standing {
 }
 
 // Whether a text item or a macro can be sent now, or has to wait for a data byte.
-#[derive(Drop)]
+#[derive(Clone, Copy)]
 pub enum Output {
     Ready,
     Waiting,

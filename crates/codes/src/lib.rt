@@ -1,4 +1,6 @@
 // What a call answers: a code and a note. Which side of an option is meant. Telnet's and the options' numbers.
+#![tactic(auto)]
+
 ghost use Rattle.std.specs.Prelude.{◌≡◌};
 ghost use Rattle.codes.specs.Answers.{code_number, note_number, first_note, no_room, no_wire, is_done, is_clear};
 ghost use Rattle.codes.specs.Telnet.{verb_number, whose_of, enables, plain_command, other_side};
@@ -75,7 +77,7 @@ pub const PAPER_ROOM: usize = 1024;
 pub const WIRE_ROOM: usize = 4096;
 
 // Every code but Done is a refusal: the state and the lent bytes do not change.
-#[derive(Drop)]
+#[derive(Clone, Copy)]
 pub enum Code {
     Done,
     NoRoom,
@@ -95,7 +97,7 @@ pub enum Code {
 }
 
 // What a network byte's answer says of a body or a command that was not acted on.
-#[derive(Drop)]
+#[derive(Clone, Copy)]
 pub enum Note {
     Clear,
     Unreadable,
@@ -105,7 +107,7 @@ pub enum Note {
 }
 
 // The four negotiation commands of RFC 854.
-#[derive(Drop)]
+#[derive(Clone, Copy)]
 pub enum Verb {
     Will,
     Wont,
@@ -114,14 +116,14 @@ pub enum Verb {
 }
 
 // Whose side of an option: the other end's (WILL, WONT are received of it) or this end's (DO, DONT are).
-#[derive(Drop)]
+#[derive(Clone, Copy)]
 pub enum Whose {
     His,
     Ours,
 }
 
 // The options about output disposition: of carriage returns, line feeds, form feeds and horizontal tabs.
-#[derive(Drop)]
+#[derive(Clone, Copy)]
 pub enum Disposition {
     Naocrd,
     Naolfd,
@@ -130,7 +132,7 @@ pub enum Disposition {
 }
 
 // The one of them that a number or a character belongs to, if any.
-#[derive(Drop)]
+#[derive(Clone, Copy)]
 pub enum MaybeDisposition {
     Some(Disposition),
     None,
@@ -276,6 +278,7 @@ pub fn option_number(d: Disposition) -> u8
     }
 }
 
+#[tactic(auto, unfolding(crate::specs::Dispositions::disposition_numbered))]
 pub fn disposition_numbered(option: u8) -> MaybeDisposition
     ensures { result ≡ disposition_numbered option }
 {

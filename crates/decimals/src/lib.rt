@@ -1,5 +1,7 @@
 // A number under 100,000 in decimal, for what is printed. Each encoder writes at the beginning of the output that it is
 // handed.
+#![tactic(auto)]
+
 ghost use Rattle.lists.specs.Buffers.{lent, WroteAtStart, RoomFor};
 ghost use Rattle.decimals.specs.Decimals.{digits, decimal, number_then};
 

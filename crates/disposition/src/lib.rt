@@ -1,5 +1,7 @@
 // The options about output disposition (NAOCRD, NAOLFD, NAOFFD, NAOHTD): the two values of each that were suggested, who handles its
 // character, and how.
+#![tactic(auto)]
+
 mod by_option;
 mod handled;
 mod item_data;
@@ -15,14 +17,14 @@ pub use handled::{
 pub use item_data::{ITEM_ROOM, awaits, put_item, takes_part};
 
 // DS, the bulletin end's value, and DR, the printer end's.
-#[derive(Drop)]
+#[derive(Clone, Copy)]
 pub struct Values {
     pub ds: u8,
     pub dr: u8,
 }
 
 // Those of each option.
-#[derive(Drop)]
+#[derive(Clone, Copy)]
 pub struct AllValues {
     pub naocrd: Values,
     pub naolfd: Values,
@@ -31,7 +33,7 @@ pub struct AllValues {
 }
 
 // For which options output waits, each by its own 254.
-#[derive(Drop)]
+#[derive(Clone, Copy)]
 pub struct Waits {
     pub naocrd: bool,
     pub naolfd: bool,
@@ -40,14 +42,14 @@ pub struct Waits {
 }
 
 // Who handles the character of an option, by which value.
-#[derive(Drop)]
+#[derive(Clone, Copy)]
 pub enum Handling {
     Sender(u8),
     Receiver(u8),
 }
 
 // Of each option.
-#[derive(Drop)]
+#[derive(Clone, Copy)]
 pub struct Handlings {
     pub naocrd: Handling,
     pub naolfd: Handling,

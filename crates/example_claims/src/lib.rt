@@ -1,1 +1,2 @@
 // Worked examples of the rules. There is no code here.
+#![tactic(auto)]

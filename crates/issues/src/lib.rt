@@ -1,4 +1,6 @@
 // The forecast issue: the number in force, and for each macro byte the number that its last DEFINE kept.
+#![tactic(auto)]
+
 ghost use Rattle.std.specs.Prelude.{◌≡◌};
 ghost use Rattle.codes.specs.Answers.{refusal_of};
 ghost use Rattle.sent_macros.specs.Refinement.{bare_table};
@@ -11,7 +13,7 @@ use codes::Code;
 const BYTES: usize = 256;
 
 // The number in force; of a byte that was not defined 0 is kept.
-#[derive(Drop)]
+#[derive(Clone, Copy)]
 pub struct Issues {
     pub present: u16,
     pub kept: [u16; BYTES],

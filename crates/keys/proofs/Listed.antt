@@ -4,9 +4,9 @@
 use mathlib.Core.Path.{◌≡◌, refl}
 use mathlib.Core.Bool.{Bool, true, false, ◌||◌, ◌&&◌, not, cond}
 use mathlib.Core.List.{List, [], ◌∷◌}
-use mathlib.Core.Logic.{◌⊎◌, inl, inr}
+use mathlib.Core.Logic.{inl, inr}
 use Prim.Native.Nat.{ℕ, zero, suc, ◌-◌, ◌<◌, ◌≤◌}
-use lib.Dec.{eqb, ltb}
+use lib.Dec.{ltb}
 use types.Run.{OneOf}
 use borrow.Author.Tests.{ne_eqb, le-ltb, not-true}
 use Rattle.lists.specs.Choice.{one_of}

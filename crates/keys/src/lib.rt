@@ -1,4 +1,6 @@
 // A key of the printer end's keyboard, and an item of the bulletin end's text.
+#![tactic(auto)]
+
 ghost use Rattle.std.specs.Prelude.{◌≡◌};
 ghost use Rattle.lists.specs.Buffers.{lent, WroteAtStart, RoomFor};
 ghost use Rattle.keys.specs.Keys.{bad_command, key_class, class_bit, in_classes, is_command, prints, key_paper};
@@ -11,7 +13,7 @@ mod classes;
 pub use classes::class_of;
 
 // Char and Line are typed characters; a Command is one of Telnet's codes 241 to 249.
-#[derive(Drop)]
+#[derive(Clone, Copy)]
 pub enum Key {
     Char(u8),
     Line,

@@ -1,6 +1,6 @@
 -- Two encoders one behind the other, the second in the rest of the first one's buffer, where all fits.
 use mathlib.Core.List.{List, [], ◌∷◌, ◌++◌}
-use Prim.Native.Nat.{ℕ, ◌+◌, ◌-◌, ◌≤◌, ◌<◌}
+use Prim.Native.Nat.{ℕ, ◌+◌, ◌≤◌, ◌<◌}
 use native.Mathlib.Omega.{arith}
 use lib.ListN.{length, set, length-append}
 use Rattle.lists.specs.Buffers.{Lent, lent_as, WroteAtStart, RoomFor}

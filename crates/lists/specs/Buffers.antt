@@ -1,7 +1,7 @@
 -- Buffers that a caller lends, and the bytes written at their start.
 use Rattle.std.specs.Prelude.{◌≡◌, List, ◌++◌, ℕ, ◌≤◌, ◌-◌, length, drop, replicate}
 use denote.Triple.Both.{Both}
-use Rattle.std.specs.Borrow.{Bor}
+use denote.Ref.{MutBor}
 
 -- a lent buffer: what it held as the call began, what it holds as it ends
 pub record Lent : Type 0 where
@@ -16,7 +16,7 @@ abbrev pub untouched : List ℕ → Lent
 untouched cells = lent_as cells cells
 
 -- the buffer behind a parameter of a call
-abbrev pub lent : Both (Bor (List ℕ)) (Bor (List ℕ)) → Lent
+abbrev pub lent : Both (MutBor (List ℕ)) (MutBor (List ℕ)) → Lent
 lent b = lent_as b.entry.now b.exit.now
 
 -- n bytes were written, and the rest of the buffer is as it was

@@ -1,5 +1,5 @@
 -- Sums and runs of lists.
-use Rattle.std.specs.Prelude.{List, [], ◌∷◌, ◌++◌, ℕ, ◌+◌}
+use Rattle.std.specs.Prelude.{List, [], ◌∷◌, ℕ, ◌+◌}
 
 unfoldable pub sum : List ℕ → ℕ
 sum [] = 0

@@ -1,1 +1,2 @@
 // Definitions and laws on lists that every other crate shares. There is no code here.
+#![tactic(auto)]

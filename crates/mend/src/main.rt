@@ -1,35 +1,37 @@
 // Reads a capture from standard input and mends it: the mended capture goes to standard output, a line for each drop to
 // standard error. One byte more than a capture may have is read, so that a longer one is seen to be one.
-use libc::{STDERR_FILENO, STDOUT_FILENO};
-use mending::{CAPTURE_ROOM, LIST_ROOM};
+#![tactic(auto)]
 
-// False where the output failed; `errno` says why. Drops are told only where the mended capture could be written.
-fn print_mended(capture: &[u8]) -> bool {
+use mending::{CAPTURE_ROOM, LIST_ROOM};
+use std::io;
+
+// The error where the output failed. Drops are told only where the mended capture could be written.
+fn print_mended(rt: &impl Print, drops: &impl Print, capture: &[u8]) -> io::Result<()> {
     let mut out = [0u8; CAPTURE_ROOM];
     let mut list = [0u8; LIST_ROOM];
     let answer = mending::mend(capture, &mut out, &mut list);
     let written = answer.written;
     let listed = answer.listed;
-    if !io::write_all(STDOUT_FILENO, &out[..written]) {
-        return false;
-    }
-    io::write_all(STDERR_FILENO, &list[..listed]);
-    true
+    rt.write_all(&out[..written])?;
+    let _ = drops.write_all(&list[..listed]);
+    Ok(())
 }
 
-fn main() {
-    if os::arg_count() > 1 {
-        io::write_all(STDERR_FILENO, b"usage: mend < CAPTURE > MENDED 2> DROPS\n");
+fn main(rt: HostRuntime) {
+    if streams::arg_count(&rt) > 1 {
+        let _ = rt
+            .stderr()
+            .write_all(b"usage: mend < CAPTURE > MENDED 2> DROPS\n");
         return;
     }
     let mut capture = [0u8; CAPTURE_ROOM + 1];
-    let input = standard_input::read_all(&mut capture);
-    if input.failed {
-        os::fail(b"standard input");
+    let input = standard_input::read_all(&rt, &mut capture);
+    if let Some(error) = input.failed {
+        streams::fail(&rt.stderr(), b"standard input", error);
         return;
     }
     let n = input.len;
-    if !print_mended(&capture[..n]) {
-        os::fail(b"standard output");
+    if let Err(error) = print_mended(&rt, &rt.stderr(), &capture[..n]) {
+        streams::fail(&rt.stderr(), b"standard output", error);
     }
 }

@@ -6,11 +6,13 @@ use Prim.Native.Nat.{ℕ}
 use lib.Dec.{eqb}
 use Rattle.lists.proofs.Lengths.{either, either_both}
 use Rattle.codes.specs.Telnet.{IAC, SB, SE, plain_command, WILL, WONT, DO, DONT}
+use Rattle.codes.specs.declared.Verb.{Verb}
+use Rattle.codes.specs.declared.Verb.TheVariants.{Will, Wont, Do, Dont}
 use Rattle.reader.specs.declared.Phase.{Phase}
 use Rattle.reader.specs.declared.Phase.TheVariants.{Between, AfterIac, AfterVerb, InBody, InBodyAfterIac}
 use Rattle.reader.specs.declared.Item.{Item}
 use Rattle.reader.specs.declared.Item.TheVariants.{Nothing, Data, Negotiated, BodyEnd, StrayCommand}
-use Rattle.reader.specs.Reading.{ReaderState, ReadEffect, idle, in_phase, read, read_in, command_read, body_command_read, keeping, is_between}
+use Rattle.reader.specs.Reading.{ReaderState, ReadEffect, idle, in_phase, gives, goes, marring, read, read_in, command_read, body_command_read, keeping, is_between}
 use Rattle.reader.specs.Framing.{reader_after, Silent}
 use Rattle.reader.proofs.Framing.{after_append}
 use Rattle.mending.proofs.Walk.{Whole, last_read}
@@ -105,21 +107,32 @@ Bare r = shed r ≡ r
 abbrev LeftBare : ReadEffect → Type 0
 LeftBare x = UnlessBody Bare x.item x.reader
 
+-- what holds of each effect of a command's byte
+each_command : (P : ReadEffect → Type 0) (r : ReaderState) (b : ℕ)
+    → P (gives (Data IAC) (in_phase r Between)) → P (goes InBody idle) → ((v : Verb) → P (goes (AfterVerb v) r)) → P (goes Between r)
+    → P (gives StrayCommand (in_phase r Between)) → P (command_read r b)
+unfolding command_read
+each_command P r b iac body verb plain stray =
+    either P (eqb b IAC) iac
+    (either P (eqb b SB) body
+    (either P (eqb b WILL) (verb Will)
+    (either P (eqb b WONT) (verb Wont)
+    (either P (eqb b DO) (verb Do)
+    (either P (eqb b DONT) (verb Dont)
+    (either P (plain_command b) plain stray))))))
+
+each_body_command : (P : ReadEffect → Type 0) (r : ReaderState) (b : ℕ)
+    → P (gives Nothing (keeping r IAC)) → P (gives BodyEnd (in_phase r Between)) → P (gives Nothing (marring r)) → P (body_command_read r b)
+unfolding body_command_read
+each_body_command P r b iac end mars = either P (eqb b IAC) iac (either P (eqb b SE) end mars)
+
 left_in : (p : Phase) (r : ReaderState) (b : ℕ) → r.phase ≡ p → shed_in p r ≡ r → LeftBare (read_in p r b)
-unfolding command_read body_command_read keeping
-left_in Between r b e k = rw (← k) (either LeftBare (eqb b IAC) refl refl)
-left_in AfterIac r b e k =
-    rw (← k)
-    (either LeftBare (eqb b IAC) refl
-    (either LeftBare (eqb b SB) refl
-    (either LeftBare (eqb b WILL) refl
-    (either LeftBare (eqb b WONT) refl
-    (either LeftBare (eqb b DO) refl
-    (either LeftBare (eqb b DONT) refl
-    (either LeftBare (plain_command b) refl refl)))))))
+unfolding keeping
+left_in Between r b e k = rw (← k) (either LeftBare (eqb b IAC) {x = goes AfterIac idle} {y = gives (Data b) idle} refl refl)
+left_in AfterIac r b e k = rw (← k) (each_command LeftBare (in_phase idle AfterIac) b refl refl (λ v. refl) refl refl)
 left_in (AfterVerb v) r b e k = rw (← k) refl
-left_in InBody r b e k = either LeftBare (eqb b IAC) refl refl
-left_in InBodyAfterIac r b e k = either LeftBare (eqb b IAC) refl (either LeftBare (eqb b SE) tt refl)
+left_in InBody r b e k = either LeftBare (eqb b IAC) {x = goes InBodyAfterIac r} {y = gives Nothing (keeping r b)} refl refl
+left_in InBodyAfterIac r b e k = each_body_command LeftBare r b refl tt refl
 
 left_bare : (r : ReaderState) (b : ℕ) → Bare r → LeftBare (read r b)
 unfolding read

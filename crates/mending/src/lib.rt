@@ -1,4 +1,6 @@
 // Mending a capture of the line toward the printer: what a printer end could not read is dropped, the rest is copied.
+#![tactic(auto)]
+
 ghost use Rattle.std.specs.Prelude.{length, ◌≡◌, ◌≤◌};
 ghost use Rattle.lists.specs.Buffers.{lent, RoomFor};
 ghost use Rattle.mending.specs.Mending.{capture_room, mends_to, mended, drops, lines_of, lacks_room, mend_call};
@@ -21,28 +23,28 @@ pub const LIST_ROOM: usize = 327685;
 const PART: usize = 256;
 
 // Why a piece is dropped: a body that is unreadable, a stray command, an unfinished command at the capture's end.
-#[derive(Drop)]
+#[derive(Clone, Copy)]
 pub enum Reason {
     Unreadable,
     Stray,
     Unfinished,
 }
 
-#[derive(Drop)]
+#[derive(Clone, Copy)]
 pub enum Judged {
     Copied,
     Dropped(Reason),
 }
 
 // The first piece of what is left of a capture: a byte of text, or a command.
-#[derive(Drop)]
+#[derive(Clone, Copy)]
 pub struct Found {
     pub size: usize,
     pub judged: Judged,
 }
 
 // What a scan took of the capture, and wrote to the two buffers.
-#[derive(Drop)]
+#[derive(Clone, Copy)]
 pub struct Scanned {
     pub taken: usize,
     pub written: usize,
@@ -50,14 +52,14 @@ pub struct Scanned {
 }
 
 // A capture is mended unless it is too long, or a buffer is under its room.
-#[derive(Drop)]
+#[derive(Clone, Copy)]
 pub enum Outcome {
     Mended,
     TooLong,
     NoRoom,
 }
 
-#[derive(Drop)]
+#[derive(Clone, Copy)]
 pub struct Answer {
     pub outcome: Outcome,
     pub written: usize,

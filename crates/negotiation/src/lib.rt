@@ -1,4 +1,6 @@
 // Option negotiation by RFC 1143: six states a side, what is received and what is asked.
+#![tactic(auto)]
+
 use codes::{Code, Disposition, Whose};
 
 mod asks;
@@ -12,14 +14,14 @@ pub use carried::{
 pub use table::{is_yes, is_yes_or_ending};
 
 // The two ends of the line.
-#[derive(Drop)]
+#[derive(Clone, Copy)]
 pub enum End {
     Printer,
     Bulletin,
 }
 
 // The state of one side of one option; Opposite marks a queued request.
-#[derive(Drop)]
+#[derive(Clone, Copy)]
 pub enum OptionState {
     No,
     Yes,
@@ -30,7 +32,7 @@ pub enum OptionState {
 }
 
 // What the negotiation sends: nothing, the verb that enables (WILL, DO), or the one that disables (WONT, DONT).
-#[derive(Drop)]
+#[derive(Clone, Copy)]
 pub enum Reply {
     Silent,
     Positive,
@@ -38,28 +40,28 @@ pub enum Reply {
 }
 
 // A negotiation received leads to a state and a reply.
-#[derive(Drop)]
+#[derive(Clone, Copy)]
 pub struct Heard {
     pub next: OptionState,
     pub reply: Reply,
 }
 
 // An ask is already so or already asked, or leads to a state and a request.
-#[derive(Drop)]
+#[derive(Clone, Copy)]
 pub enum Asked {
     Already,
     Moves(OptionState, Reply),
 }
 
 // What an ask comes to: a refusal (codes 4, 11, 5), or a state and a request.
-#[derive(Drop)]
+#[derive(Clone, Copy)]
 pub enum Asking {
     Refused(Code),
     Moves(OptionState, Reply),
 }
 
 // What a negotiation received comes to: the side that it is about, its next state, and the reply.
-#[derive(Drop)]
+#[derive(Clone, Copy)]
 pub struct Turn {
     pub side: Side,
     pub next: OptionState,
@@ -68,7 +70,7 @@ pub struct Turn {
 }
 
 // A side that is carried, named by the end that performs the option; Uncarried is any other.
-#[derive(Drop)]
+#[derive(Clone, Copy)]
 pub enum Side {
     Echo,
     BulletinSga,
@@ -80,7 +82,7 @@ pub enum Side {
 }
 
 // The states of the options about output disposition, which the printer end performs.
-#[derive(Drop)]
+#[derive(Clone, Copy)]
 pub struct DispositionStates {
     pub naocrd: OptionState,
     pub naolfd: OptionState,
@@ -89,7 +91,7 @@ pub struct DispositionStates {
 }
 
 // The states of the nine carried sides: what the bulletin end performs, then what the printer end does.
-#[derive(Drop)]
+#[derive(Clone, Copy)]
 pub struct Sides {
     pub echo: OptionState,
     pub sga: OptionState,

@@ -26,8 +26,7 @@ use session_arrays::{
     Outcome, Reported, RunOutcome, StandingNumbers, bulletin_arrays, bulletin_runs, numbers,
 };
 
-#[unsafe(no_mangle)]
-pub extern "C" fn prambow_bulletin_fresh_arrays(
+pub fn prambow_bulletin_fresh_arrays(
     small: &mut [u8; 23],
     counts: &mut [usize; 1],
     body: &mut [u8; BODY_ROOM],
@@ -43,8 +42,7 @@ pub extern "C" fn prambow_bulletin_fresh_arrays(
     bulletin_arrays::store(s, small, counts, body, statuses, marks, cells, issue, kept);
 }
 
-#[unsafe(no_mangle)]
-pub extern "C" fn prambow_bulletin_network_byte_arrays(
+pub fn prambow_bulletin_network_byte_arrays(
     small: &mut [u8; 23],
     counts: &mut [usize; 1],
     body: &mut [u8; BODY_ROOM],
@@ -66,8 +64,7 @@ pub extern "C" fn prambow_bulletin_network_byte_arrays(
 
 // Network bytes one after the other, as `bulletin::calls::network_bytes` reads them. Stops before one that would be refused, and
 // behind one that gave a note. One plain byte needs no loop.
-#[unsafe(no_mangle)]
-pub extern "C" fn prambow_bulletin_network_bytes_arrays(
+pub fn prambow_bulletin_network_bytes_arrays(
     small: &mut [u8; 23],
     counts: &mut [usize; 1],
     body: &mut [u8; BODY_ROOM],
@@ -97,8 +94,7 @@ pub extern "C" fn prambow_bulletin_network_bytes_arrays(
     )
 }
 
-#[unsafe(no_mangle)]
-pub extern "C" fn prambow_bulletin_ask_arrays(
+pub fn prambow_bulletin_ask_arrays(
     small: &mut [u8; 23],
     counts: &mut [usize; 1],
     body: &mut [u8; BODY_ROOM],
@@ -118,8 +114,7 @@ pub extern "C" fn prambow_bulletin_ask_arrays(
     bulletin_arrays::kept(a, small, counts, body, statuses, marks, cells, issue, kept)
 }
 
-#[unsafe(no_mangle)]
-pub extern "C" fn prambow_bulletin_suggest_arrays(
+pub fn prambow_bulletin_suggest_arrays(
     small: &mut [u8; 23],
     counts: &mut [usize; 1],
     body: &mut [u8; BODY_ROOM],
@@ -139,8 +134,7 @@ pub extern "C" fn prambow_bulletin_suggest_arrays(
     bulletin_arrays::kept(a, small, counts, body, statuses, marks, cells, issue, kept)
 }
 
-#[unsafe(no_mangle)]
-pub extern "C" fn prambow_bulletin_order_arrays(
+pub fn prambow_bulletin_order_arrays(
     small: &mut [u8; 23],
     counts: &mut [usize; 1],
     body: &mut [u8; BODY_ROOM],
@@ -161,8 +155,7 @@ pub extern "C" fn prambow_bulletin_order_arrays(
     bulletin_arrays::kept(a, small, counts, body, statuses, marks, cells, issue, kept)
 }
 
-#[unsafe(no_mangle)]
-pub extern "C" fn prambow_bulletin_define_arrays(
+pub fn prambow_bulletin_define_arrays(
     small: &mut [u8; 23],
     counts: &mut [usize; 1],
     body: &mut [u8; BODY_ROOM],
@@ -182,8 +175,7 @@ pub extern "C" fn prambow_bulletin_define_arrays(
     bulletin_arrays::kept(a, small, counts, body, statuses, marks, cells, issue, kept)
 }
 
-#[unsafe(no_mangle)]
-pub extern "C" fn prambow_bulletin_use_macro_arrays(
+pub fn prambow_bulletin_use_macro_arrays(
     small: &mut [u8; 23],
     counts: &mut [usize; 1],
     body: &mut [u8; BODY_ROOM],
@@ -203,8 +195,7 @@ pub extern "C" fn prambow_bulletin_use_macro_arrays(
 }
 
 // The item is a pair of numbers, as a key; one that stands for none is refused with code 3.
-#[unsafe(no_mangle)]
-pub extern "C" fn prambow_bulletin_text_item_arrays(
+pub fn prambow_bulletin_text_item_arrays(
     small: &mut [u8; 23],
     counts: &mut [usize; 1],
     body: &mut [u8; BODY_ROOM],
@@ -225,8 +216,7 @@ pub extern "C" fn prambow_bulletin_text_item_arrays(
     bulletin_arrays::kept(a, small, counts, body, statuses, marks, cells, issue, kept)
 }
 
-#[unsafe(no_mangle)]
-pub extern "C" fn prambow_bulletin_issue_arrays(
+pub fn prambow_bulletin_issue_arrays(
     small: &mut [u8; 23],
     counts: &mut [usize; 1],
     body: &mut [u8; BODY_ROOM],
@@ -246,8 +236,7 @@ pub extern "C" fn prambow_bulletin_issue_arrays(
 }
 
 // How the last DEFINE of a byte stands, and the issue that it kept. It looks at BM's state, the statuses and the issues alone.
-#[unsafe(no_mangle)]
-pub extern "C" fn prambow_bulletin_macro_standing_arrays(
+pub fn prambow_bulletin_macro_standing_arrays(
     small: &[u8; 23],
     statuses: &[u8; 256],
     issue: &[u16; 1],
@@ -274,8 +263,7 @@ pub extern "C" fn prambow_bulletin_macro_standing_arrays(
 }
 
 // Of each option about output disposition who handles its character, and how. It looks at the small parts alone.
-#[unsafe(no_mangle)]
-pub extern "C" fn prambow_bulletin_report_arrays(small: &[u8; 23]) -> Reported
+pub fn prambow_bulletin_report_arrays(small: &[u8; 23]) -> Reported
     ensures { ReportsBulletin small.now result }
 {
     let sides = bulletin_arrays::sides_in(small);
@@ -284,8 +272,7 @@ pub extern "C" fn prambow_bulletin_report_arrays(small: &[u8; 23]) -> Reported
 }
 
 // Whether output waits: 0 ready, 1 waiting.
-#[unsafe(no_mangle)]
-pub extern "C" fn prambow_bulletin_output_arrays(small: &[u8; 23]) -> u8
+pub fn prambow_bulletin_output_arrays(small: &[u8; 23]) -> u8
     ensures { SaysOutput small.now result }
 {
     let waits = bulletin_arrays::waits_in(small);

@@ -16,8 +16,7 @@ use reader::BODY_ROOM;
 use received_macros::ROOM;
 use session_arrays::{Outcome, Reported, RunOutcome, numbers, printer_arrays, printer_runs};
 
-#[unsafe(no_mangle)]
-pub extern "C" fn prambow_printer_fresh_arrays(
+pub fn prambow_printer_fresh_arrays(
     small: &mut [u8; 22],
     classes: &mut [u16; 2],
     counts: &mut [usize; 3],
@@ -35,8 +34,7 @@ pub extern "C" fn prambow_printer_fresh_arrays(
     );
 }
 
-#[unsafe(no_mangle)]
-pub extern "C" fn prambow_printer_network_byte_arrays(
+pub fn prambow_printer_network_byte_arrays(
     small: &mut [u8; 22],
     classes: &mut [u16; 2],
     counts: &mut [usize; 3],
@@ -62,8 +60,7 @@ pub extern "C" fn prambow_printer_network_byte_arrays(
 
 // Network bytes one after the other, as `printer::calls::network_bytes` reads them. Stops before one that would be refused, and
 // behind one that gave a note. One plain byte needs no loop.
-#[unsafe(no_mangle)]
-pub extern "C" fn prambow_printer_network_bytes_arrays(
+pub fn prambow_printer_network_bytes_arrays(
     small: &mut [u8; 22],
     classes: &mut [u16; 2],
     counts: &mut [usize; 3],
@@ -94,8 +91,7 @@ pub extern "C" fn prambow_printer_network_bytes_arrays(
 }
 
 // The key is a pair of numbers; one that stands for no key is refused with code 3.
-#[unsafe(no_mangle)]
-pub extern "C" fn prambow_printer_press_arrays(
+pub fn prambow_printer_press_arrays(
     small: &mut [u8; 22],
     classes: &mut [u16; 2],
     counts: &mut [usize; 3],
@@ -121,8 +117,7 @@ pub extern "C" fn prambow_printer_press_arrays(
     )
 }
 
-#[unsafe(no_mangle)]
-pub extern "C" fn prambow_printer_ask_arrays(
+pub fn prambow_printer_ask_arrays(
     small: &mut [u8; 22],
     classes: &mut [u16; 2],
     counts: &mut [usize; 3],
@@ -147,8 +142,7 @@ pub extern "C" fn prambow_printer_ask_arrays(
     )
 }
 
-#[unsafe(no_mangle)]
-pub extern "C" fn prambow_printer_suggest_arrays(
+pub fn prambow_printer_suggest_arrays(
     small: &mut [u8; 22],
     classes: &mut [u16; 2],
     counts: &mut [usize; 3],
@@ -174,8 +168,7 @@ pub extern "C" fn prambow_printer_suggest_arrays(
 }
 
 // Of each option about output disposition who handles its character, and how. It looks at the small parts alone.
-#[unsafe(no_mangle)]
-pub extern "C" fn prambow_printer_report_arrays(small: &[u8; 22]) -> Reported
+pub fn prambow_printer_report_arrays(small: &[u8; 22]) -> Reported
     ensures { ReportsPrinter small.now result }
 {
     let sides = printer_arrays::sides_in(small);
@@ -184,8 +177,7 @@ pub extern "C" fn prambow_printer_report_arrays(small: &[u8; 22]) -> Reported
 }
 
 // How many keys wait. It looks at the counts alone.
-#[unsafe(no_mangle)]
-pub extern "C" fn prambow_printer_waiting_arrays(counts: &[usize; 3]) -> usize
+pub fn prambow_printer_waiting_arrays(counts: &[usize; 3]) -> usize
     ensures { CountsWaiting counts.now result }
 {
     let count = counts[1];

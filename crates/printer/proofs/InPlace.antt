@@ -4,7 +4,6 @@ use mathlib.Core.Bool.{Bool, true, false, not, ◌&&◌, false≢true, cond}
 use mathlib.Core.List.{List, [], ◌∷◌, append-nil}
 use Prim.Native.Nat.{ℕ, ◌+◌, ◌≤◌}
 use native.Mathlib.Omega.{arith}
-use borrow.Author.Rules.{zero≤}
 use borrow.Author.Tests.{eqb-true}
 use lib.ListN.{length, drop, drop_of_length-le}
 use lib.Seq.{take-length}
@@ -182,4 +181,4 @@ in_place_fits p b = go _ (read_in_place p b) (unhandled_stays p.sides p.reader.p
       where
         either_way : (t : Bool) → e.handled ≡ t → Within e
         either_way true h = handled_fits p b e (does h)
-        either_way false h = rw (stays h) (zero≤, zero≤)
+        either_way false h = rw (stays h) (omega arith, omega arith)

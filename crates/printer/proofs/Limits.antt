@@ -40,7 +40,7 @@ use Rattle.printer.proofs.LimitsReader.{wire_bound, no_bound, bound_within}
 use Rattle.negotiation.proofs.Replies.{reply_long}
 use Rattle.negotiation.proofs.Outcomes.{asked_cases}
 use Rattle.wire.proofs.Coded.{coded_long}
-use Rattle.printer.proofs.LimitsNetwork.{with_values, with_rcte_lem, Step, moves, replies, byte_step, bytes_step}
+use Rattle.printer.proofs.LimitsNetwork.{with_values_lem, with_rcte_lem, Step, moves, replies, byte_step, bytes_step}
 
 -- a step that is within these fits
 step_fits : {H : Type 0} {p n : ℕ} {d : Effect} (s : PrinterState) → Sized s → p ≤ text_limit → wire_bound s.reader + n ≤ 529 → Step s.rcte s.reader p n H d → Fits d
@@ -136,7 +136,7 @@ module _ (s : PrinterState) (c : Call) where
       (either (Answered s c) (eqb v values.dr) (refuses _)
       (record {
         fits = λ z. record { paper = lit≤ tt; wire = suggestion_fits d v };
-        kept = λ b h. with_values h (with_values_of s.values d (with_dr values v));
+        kept = λ b h. with_values_lem h (with_values_of s.values d (with_dr values v));
       })))
 
 answers : (s : PrinterState) (c : Call) → Answered s c (called s c)

@@ -3,7 +3,7 @@ use mathlib.Core.Path.{◌≡◌, refl, sym, ap, ◌∙◌}
 use mathlib.Core.Bool.{Bool, true, false}
 use mathlib.Core.List.{List, []}
 use Prim.Native.Nat.{ℕ}
-use borrow.Author.Rules.{zero≤}
+use native.Mathlib.Omega.{arith}
 use Rattle.lists.specs.Buffers.{Lent, untouched, RoomFor}
 use Rattle.codes.specs.declared.Note.TheVariants.{Clear}
 use Rattle.received_macros.specs.Texts.{Entry, entry_of}
@@ -37,7 +37,7 @@ module _ (p : Printer) (b : ℕ) (e : Entry) (is : entry_of (view_printer p).tab
     where
       go : (t : Bool) → effect.handled ≡ t → RoomFor effect.paper paper
       go true h = rw (does h) at room
-      go false h = rw (stays h) zero≤
+      go false h = rw (stays h) (omega arith)
 
   module _ {paper : Lent} {r : InPlace} (m : RefinesInPlaceOnPaper effect paper r) where
     -- it was handled

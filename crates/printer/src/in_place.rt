@@ -28,7 +28,7 @@ use reader::{Item, Phase};
 use received_macros::{ROOM, Span};
 
 // Whether the byte is handled, the two parts after it, and how many bytes went to the paper and to the wire.
-#[derive(Drop)]
+#[derive(Clone, Copy)]
 pub struct InPlace {
     pub handled: bool,
     pub sides: Sides,

@@ -1,4 +1,6 @@
 // The printer end: keyboard and paper. One state by value, and its calls.
+#![tactic(auto)]
+
 use codes::{Code, Note};
 use disposition::AllValues;
 use negotiation::Sides;
@@ -15,7 +17,7 @@ mod run;
 pub mod stretches;
 
 // The whole state: negotiation, reader, macros, RCTE's control, the values about output disposition.
-#[derive(Drop)]
+#[derive(Clone, Copy)]
 pub struct Printer {
     pub sides: Sides,
     pub reader: Reader,
@@ -25,7 +27,7 @@ pub struct Printer {
 }
 
 // A step: its note, how many bytes went to the paper and to the wire, and the state after it.
-#[derive(Drop)]
+#[derive(Clone, Copy)]
 pub struct Step {
     pub note: Note,
     pub paper: usize,
@@ -34,7 +36,7 @@ pub struct Step {
 }
 
 // A call's answer.
-#[derive(Drop)]
+#[derive(Clone, Copy)]
 pub struct Answer {
     pub code: Code,
     pub note: Note,
@@ -44,7 +46,7 @@ pub struct Answer {
 }
 
 // The answer of a run of network bytes: a call's, with how many bytes were taken.
-#[derive(Drop)]
+#[derive(Clone, Copy)]
 pub struct RunAnswer {
     pub code: Code,
     pub note: Note,

@@ -1,4 +1,6 @@
 // RCTE's control of the keyboard: the hold, the orders, what waits and what is gathered.
+#![tactic(auto)]
+
 ghost use Rattle.std.specs.Prelude.{◌≡◌};
 ghost use Rattle.lists.specs.Buffers.{lent, RoomFor};
 ghost use Rattle.rcte.specs.Control as control;
@@ -22,7 +24,7 @@ pub const WAIT_ROOM: usize = 256;
 pub const GATHER_ROOM: usize = 512;
 
 // A key that waits is kept as a number. Cells past a count are 0.
-#[derive(Drop)]
+#[derive(Clone, Copy)]
 pub struct Rcte {
     pub held: bool,
     pub action: Action,
@@ -35,7 +37,7 @@ pub struct Rcte {
 }
 
 // How many bytes went to the paper and to the wire, and the state after that.
-#[derive(Drop)]
+#[derive(Clone, Copy)]
 pub struct RcteStep {
     pub paper: usize,
     pub wire: usize,
@@ -43,35 +45,35 @@ pub struct RcteStep {
 }
 
 // How many bytes went to the paper and to the wire.
-#[derive(Drop)]
+#[derive(Clone, Copy)]
 pub struct Written {
     pub paper: usize,
     pub wire: usize,
 }
 
 // What the commands have set: the action, the break classes and the transmission classes.
-#[derive(Drop)]
+#[derive(Clone, Copy)]
 struct Orders {
     action: Action,
     breaks: u16,
     sends: u16,
 }
 
-#[derive(Drop)]
+#[derive(Clone, Copy)]
 struct Gathered {
     cells: [u8; GATHER_ROOM],
     filled: usize,
 }
 
 // Bytes that were sent, and those gathered after that.
-#[derive(Drop)]
+#[derive(Clone, Copy)]
 struct Sent {
     count: usize,
     gathered: Gathered,
 }
 
 // A key taken up: its bytes on the paper, those sent, whether it broke, and what stays gathered.
-#[derive(Drop)]
+#[derive(Clone, Copy)]
 struct Taken {
     paper: usize,
     wire: usize,
@@ -80,7 +82,7 @@ struct Taken {
 }
 
 // Whether a break stopped the taking up of waiting keys, and how many were taken up then.
-#[derive(Drop)]
+#[derive(Clone, Copy)]
 enum Stop {
     All,
     At(usize),

@@ -1,6 +1,6 @@
 -- What a call of the bulletin end does to its macros and issues is one of a few changes, and the events that are seen of it tell which.
 use mathlib.Core.Path.{◌≡◌, refl, sym, subst, ◌∙◌}
-use mathlib.Core.Bool.{Bool, true, false, cond, and_false}
+use mathlib.Core.Bool.{Bool, true, false, cond, and-false}
 use mathlib.Core.List.{List, [], ◌∷◌}
 use Prim.Native.Nat.{ℕ}
 use lib.ListN.{set}
@@ -154,7 +154,7 @@ module _ (s : BulletinState) (empty : EmptyWhileOff s) where
   unfolding body_read checked option_checked by_option
   body_seen true body = (keeps, refl)
   body_seen false [] = (keeps, refl)
-  body_seen false (option ∷ rest) = rw (and_false (eqb option RCTE)) (option_seen (option ∷ rest) option (eqb option BM))
+  body_seen false (option ∷ rest) = rw (and-false (eqb option RCTE)) (option_seen (option ∷ rest) option (eqb option BM))
 
 item_seen : (s : BulletinState) → EmptyWhileOff s → (r : ReaderState) (i : Item) → let d = item_read (with_reader s r) i in
     StepSeen s (read_events (gives i r) d.wire) (reader_behind (gives i r)) d.state

@@ -1,4 +1,6 @@
 // Reading the wire: bytes to items. The reader knows no macro and no option.
+#![tactic(auto)]
+
 ghost use Rattle.std.specs.Prelude.{◌≡◌, min};
 ghost use Rattle.reader.specs.Reading.{in_phase, gives, keeping, marring, command_read, body_command_read, read_in, read, is_between, is_data};
 ghost use Rattle.reader.specs.Refinement.{view_reader, idle_cells, RefinesRead};
@@ -17,7 +19,7 @@ pub use phases::phase_read;
 pub const BODY_ROOM: usize = 260;
 
 // Where the reader stands. Between is between commands.
-#[derive(Drop)]
+#[derive(Clone, Copy)]
 pub enum Phase {
     Between,
     AfterIac,
@@ -27,7 +29,7 @@ pub enum Phase {
 }
 
 // What a byte completes. At BodyEnd the reader still keeps the body.
-#[derive(Drop)]
+#[derive(Clone, Copy)]
 pub enum Item {
     Nothing,
     Data(u8),
@@ -37,7 +39,7 @@ pub enum Item {
 }
 
 // The body read last stands in the first len cells.
-#[derive(Drop)]
+#[derive(Clone, Copy)]
 pub struct Reader {
     pub phase: Phase,
     pub marred: bool,
@@ -45,14 +47,14 @@ pub struct Reader {
     pub len: usize,
 }
 
-#[derive(Drop)]
+#[derive(Clone, Copy)]
 pub struct Read {
     pub item: Item,
     pub reader: Reader,
 }
 
 // What a byte completes and the phase after it, where the phase alone moves.
-#[derive(Drop)]
+#[derive(Clone, Copy)]
 pub struct PhaseRead {
     pub alone: bool,
     pub item: Item,

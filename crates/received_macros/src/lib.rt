@@ -1,4 +1,6 @@
 // The table of macros at the end that receives: a byte's text, and how a DEFINE is judged.
+#![tactic(auto)]
+
 ghost use Rattle.std.specs.Prelude.{◌≡◌, ◌++◌, ◌+◌, ◌-◌, ◌≤◌, length, take, drop, replicate};
 ghost use Rattle.std.proofs.Math.Seq.{paste};
 ghost use Rattle.lists.specs.Buffers.{lent, WroteAtStart, RoomFor};
@@ -38,7 +40,7 @@ const LONGEST_MARK: u16 = 256;
 pub const ROOM: usize = 1024;
 
 // RFC 735's reasons of a REFUSE.
-#[derive(Drop)]
+#[derive(Clone, Copy)]
 pub enum Reason {
     Other,
     BadChoice,
@@ -47,7 +49,7 @@ pub enum Reason {
 }
 
 // How a DEFINE is judged.
-#[derive(Drop)]
+#[derive(Clone, Copy)]
 pub enum Verdict {
     Accepted,
     Refused(Reason),
@@ -55,28 +57,28 @@ pub enum Verdict {
 
 // A mark for each byte: 0 where the byte stands for itself, else the length of its text and 1. The texts stand
 // in cells one behind the other, in the order of their bytes. Marks whose lengths pass 1,024 count as no macros.
-#[derive(Drop)]
+#[derive(Clone, Copy)]
 pub struct Texts {
     pub marks: [u16; BYTES],
     pub cells: [u8; ROOM],
 }
 
 // A copy of a byte's text; the bytes past len are 0.
-#[derive(Drop)]
+#[derive(Clone, Copy)]
 pub struct Text {
     pub len: usize,
     pub bytes: [u8; LONGEST],
 }
 
 // Where a byte's text lies in the cells.
-#[derive(Drop)]
+#[derive(Clone, Copy)]
 pub struct Span {
     pub defined: bool,
     pub start: usize,
     pub end: usize,
 }
 
-#[derive(Drop)]
+#[derive(Clone, Copy)]
 pub struct Defined {
     pub verdict: Verdict,
     pub table: Texts,

@@ -1,30 +1,34 @@
 // Reads a tape from standard input and prints what the printer end does with it. One byte more than a tape may have is
 // read, so that a longer tape is seen to be one.
-use libc::{STDERR_FILENO, STDIN_FILENO};
+#![tactic(auto)]
+
+use std::io;
+use std::io::Read;
 
 const ROOM: usize = 65537;
 
 // A short count is the input's end or a failed read; one more read tells which.
-fn input_failed(n: usize) -> bool {
+fn input_failed(input: &mut impl Read, n: usize) -> Option<io::Error> {
     let mut more = [0u8; 1];
     if n == ROOM {
-        return false;
+        return None;
     }
-    libc::read(STDIN_FILENO, &mut more) < 0
+    input.read(&mut more).err()
 }
 
-fn main() {
-    if os::arg_count() > 1 {
-        io::write_all(STDERR_FILENO, b"usage: replay < TAPE\n");
+fn main(rt: HostRuntime) {
+    if streams::arg_count(&rt) > 1 {
+        let _ = rt.stderr().write_all(b"usage: replay < TAPE\n");
         return;
     }
     let mut tape = [0u8; ROOM];
-    let n = io::read_full(STDIN_FILENO, &mut tape);
-    if input_failed(n) {
-        os::fail(b"standard input");
+    let mut input = rt.reader();
+    let n = streams::read_full(&mut input, &mut tape);
+    if let Some(error) = input_failed(&mut input, n) {
+        streams::fail(&rt.stderr(), b"standard input", error);
         return;
     }
-    if !tape_output::print_tape(&tape[..n]) {
-        os::fail(b"standard output");
+    if let Err(error) = tape_output::print_tape(&rt, &tape[..n]) {
+        streams::fail(&rt.stderr(), b"standard output", error);
     }
 }

@@ -1,4 +1,6 @@
 // The table of macros at the end that sends: what was defined, and what became of it.
+#![tactic(auto)]
+
 ghost use Rattle.std.specs.Prelude.{◌≡◌, set};
 ghost use Rattle.lists.specs.Choice.{is_same};
 ghost use Rattle.lists.specs.Buffers.{lent, WroteAtStart, RoomFor};
@@ -30,7 +32,7 @@ pub use statuses::{is_accepted, is_pending, status_at, status_number};
 const BYTES: usize = 256;
 
 // How the last DEFINE of a byte stands. PendingFree: the byte was defined as itself, and no answer has come.
-#[derive(Drop)]
+#[derive(Clone, Copy)]
 pub enum Status {
     Free,
     Pending,
@@ -40,14 +42,14 @@ pub enum Status {
 }
 
 // The number of each byte's status, and the data of pending and accepted bytes, packed as in `macros`.
-#[derive(Drop)]
+#[derive(Clone, Copy)]
 pub struct SendingTable {
     pub statuses: [u8; BYTES],
     pub texts: Texts,
 }
 
 // Whether a DEFINE fits, how many bytes it is on the wire, and the table after it.
-#[derive(Drop)]
+#[derive(Clone, Copy)]
 pub struct Defined {
     pub fits: bool,
     pub wire: usize,
@@ -55,14 +57,14 @@ pub struct Defined {
 }
 
 // The answer to a PLEASE CANCEL.
-#[derive(Drop)]
+#[derive(Clone, Copy)]
 pub struct Cancelled {
     pub wire: usize,
     pub table: SendingTable,
 }
 
 // The texts with a new one among them, if that fits.
-#[derive(Drop)]
+#[derive(Clone, Copy)]
 struct Fitted {
     fits: bool,
     texts: Texts,

@@ -1,6 +1,6 @@
 -- The bulletin end as arrays of numbers that a host lends.
 use Rattle.std.specs.Prelude.{◌≡◌, cond, List, [], ◌∷◌, ◌++◌, ℕ, get_or, drop}
-use Rattle.std.specs.Borrow.{Bor}
+use denote.Ref.{MutBor}
 use denote.Triple.Both.{Both}
 use Rattle.lists.specs.Buffers.{Lent}
 use Rattle.codes.specs.Answers.{code_number, note_number, is_done}
@@ -135,7 +135,7 @@ arrays_of_bulletin small counts body statuses marks cells issue kept = record {
   kept = kept;
 }
 
-abbrev pub lent_bulletin : (small counts body statuses marks cells issue kept : Both (Bor (List ℕ)) (Bor (List ℕ))) → LentBulletin
+abbrev pub lent_bulletin : (small counts body statuses marks cells issue kept : Both (MutBor (List ℕ)) (MutBor (List ℕ))) → LentBulletin
 lent_bulletin small counts body statuses marks cells issue kept = record {
   before = arrays_of_bulletin small.entry.now counts.entry.now body.entry.now statuses.entry.now marks.entry.now cells.entry.now issue.entry.now kept.entry.now;
   after = arrays_of_bulletin small.exit.now counts.exit.now body.exit.now statuses.exit.now marks.exit.now cells.exit.now issue.exit.now kept.exit.now;

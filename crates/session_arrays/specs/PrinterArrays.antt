@@ -1,6 +1,6 @@
 -- The printer end as arrays of numbers that a host lends.
 use Rattle.std.specs.Prelude.{◌≡◌, cond, List, [], ◌∷◌, ◌++◌, ℕ, length, get_or, drop}
-use Rattle.std.specs.Borrow.{Bor}
+use denote.Ref.{MutBor}
 use denote.Triple.Both.{Both}
 use Rattle.lists.specs.Buffers.{Lent}
 use Rattle.codes.specs.Answers.{code_number, note_number, is_done}
@@ -122,7 +122,7 @@ arrays_of_printer small classes counts body marks cells waiting gathered = recor
   gathered = gathered;
 }
 
-abbrev pub lent_printer : (small classes counts body marks cells waiting gathered : Both (Bor (List ℕ)) (Bor (List ℕ))) → LentPrinter
+abbrev pub lent_printer : (small classes counts body marks cells waiting gathered : Both (MutBor (List ℕ)) (MutBor (List ℕ))) → LentPrinter
 lent_printer small classes counts body marks cells waiting gathered = record {
   before = arrays_of_printer small.entry.now classes.entry.now counts.entry.now body.entry.now marks.entry.now cells.entry.now waiting.entry.now gathered.entry.now;
   after = arrays_of_printer small.exit.now classes.exit.now counts.exit.now body.exit.now marks.exit.now cells.exit.now waiting.exit.now gathered.exit.now;

@@ -1,5 +1,7 @@
 // A session's state as arrays of numbers that a host lends: found there, stored there, and bytes read on it. No enum and no struct that
 // holds one crosses to C; what crosses is numbers.
+#![tactic(auto)]
+
 pub mod bulletin_arrays;
 pub mod bulletin_runs;
 pub mod numbers;
@@ -10,7 +12,7 @@ use codes::Note;
 
 // An answer in numbers: the code, the note, how many bytes went to the paper or the host, and how many to the wire.
 #[repr(C)]
-#[derive(Drop)]
+#[derive(Clone, Copy)]
 pub struct Outcome {
     pub code: u32,
     pub note: u32,
@@ -20,7 +22,7 @@ pub struct Outcome {
 
 // The answer of a run of network bytes in numbers: an outcome with how many bytes were taken.
 #[repr(C)]
-#[derive(Drop)]
+#[derive(Clone, Copy)]
 pub struct RunOutcome {
     pub code: u32,
     pub note: u32,
@@ -31,7 +33,7 @@ pub struct RunOutcome {
 
 // Who handles the character of an option about output disposition, 0 the receiver and 1 the sender, and by which value.
 #[repr(C)]
-#[derive(Drop)]
+#[derive(Clone, Copy)]
 pub struct Handler {
     pub who: u8,
     pub value: u8,
@@ -39,7 +41,7 @@ pub struct Handler {
 
 // A report in numbers.
 #[repr(C)]
-#[derive(Drop)]
+#[derive(Clone, Copy)]
 pub struct Reported {
     pub naocrd: Handler,
     pub naolfd: Handler,
@@ -49,7 +51,7 @@ pub struct Reported {
 
 // How a macro byte stands in numbers: the status of its last DEFINE, the issue that this kept, and the issue in force.
 #[repr(C)]
-#[derive(Drop)]
+#[derive(Clone, Copy)]
 pub struct StandingNumbers {
     pub status: u8,
     pub kept: u16,
@@ -57,7 +59,7 @@ pub struct StandingNumbers {
 }
 
 // The numbers of the nine sides' states.
-#[derive(Drop)]
+#[derive(Clone, Copy)]
 pub struct SideNumbers {
     pub echo: u8,
     pub sga: u8,
@@ -71,7 +73,7 @@ pub struct SideNumbers {
 }
 
 // One byte of a run: its note, and how many bytes went to the paper or the host and to the wire.
-#[derive(Drop)]
+#[derive(Clone, Copy)]
 pub struct ByteOutcome {
     pub note: Note,
     pub first: usize,
@@ -79,7 +81,7 @@ pub struct ByteOutcome {
 }
 
 // A byte read in place: whether it is handled, and how many bytes went to the paper or the host and to the wire.
-#[derive(Drop)]
+#[derive(Clone, Copy)]
 pub struct InPlaceOutcome {
     pub handled: bool,
     pub first: usize,

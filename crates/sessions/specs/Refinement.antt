@@ -1,6 +1,6 @@
 -- The answer of a call on a lent record: its outcome, with the state that stands in the record behind it.
 use Rattle.std.specs.Prelude.{ℕ}
-use Rattle.std.specs.Borrow.{Bor}
+use denote.Ref.{MutBor}
 use denote.Triple.Both.{Both}
 use Rattle.lists.specs.Buffers.{Lent}
 use Rattle.printer.specs.State as rules-printer
@@ -24,15 +24,15 @@ bulletin_answer r s = record { code = r.code; note = r.note; host = r.host; wire
 
 -- what a call on a lent record owes to its rule: what the call by value owes, of the state that the record held as the call
 -- began and with the one that it holds as it ends
-abbrev pub RefinesOnPrinter : (rules-printer.PrinterState → ℕ → ℕ → rules-printer.CallEffect) → Both (Bor Printer) (Bor Printer) → Lent → Lent → PrinterOutcome → Type 0
+abbrev pub RefinesOnPrinter : (rules-printer.PrinterState → ℕ → ℕ → rules-printer.CallEffect) → Both (MutBor Printer) (MutBor Printer) → Lent → Lent → PrinterOutcome → Type 0
 RefinesOnPrinter rule s paper wire r =
     printer_kept.RefinesAnswer (rule (view_printer s.entry.now)) s.entry.now paper wire (printer_answer r s.exit.now)
 
-abbrev pub RefinesOnBulletin : (rules-bulletin.BulletinState → ℕ → ℕ → rules-bulletin.CallEffect) → Both (Bor Bulletin) (Bor Bulletin) → Lent → Lent → BulletinOutcome → Type 0
+abbrev pub RefinesOnBulletin : (rules-bulletin.BulletinState → ℕ → ℕ → rules-bulletin.CallEffect) → Both (MutBor Bulletin) (MutBor Bulletin) → Lent → Lent → BulletinOutcome → Type 0
 RefinesOnBulletin rule s host wire r =
     bulletin_kept.RefinesAnswer (rule (view_bulletin s.entry.now)) s.entry.now host wire (bulletin_answer r s.exit.now)
 
 -- .. where no buffer for data is lent
-abbrev pub RefinesOnBulletinWire : (rules-bulletin.BulletinState → ℕ → rules-bulletin.CallEffect) → Both (Bor Bulletin) (Bor Bulletin) → Lent → BulletinOutcome → Type 0
+abbrev pub RefinesOnBulletinWire : (rules-bulletin.BulletinState → ℕ → rules-bulletin.CallEffect) → Both (MutBor Bulletin) (MutBor Bulletin) → Lent → BulletinOutcome → Type 0
 RefinesOnBulletinWire rule s wire r =
     bulletin_kept.RefinesAnswerOnWire (rule (view_bulletin s.entry.now)) s.entry.now wire (bulletin_answer r s.exit.now)

@@ -1,5 +1,7 @@
 // Both ends' calls on a state that the host keeps and lends: each hands the state to the call by value and stores the one
 // that it returns. The modules `recorded_..` make such a record, lend it to these calls and answer by value.
+#![tactic(auto)]
+
 use codes::{Code, Note};
 
 pub mod bulletin_end;
@@ -8,7 +10,7 @@ pub mod recorded_bulletin;
 pub mod recorded_printer;
 
 // What a call of the printer end returns when the state stands in the lent record: its answer without the state.
-#[derive(Drop)]
+#[derive(Clone, Copy)]
 pub struct PrinterOutcome {
     pub code: Code,
     pub note: Note,
@@ -17,7 +19,7 @@ pub struct PrinterOutcome {
 }
 
 // The same of the bulletin end.
-#[derive(Drop)]
+#[derive(Clone, Copy)]
 pub struct BulletinOutcome {
     pub code: Code,
     pub note: Note,

@@ -1,26 +1,34 @@
 // Standard input, read to its end.
-ghost use Rattle.io.specs.Counts.{IsPrefixLen};
+#![tactic(auto)]
 
-use libc::STDIN_FILENO;
+ghost use Rattle.streams.specs.Counts.{IsPrefixLen};
 
-// How many bytes stand at the start of the buffer, and whether a read failed behind them.
-#[derive(Drop)]
+use std::io;
+use std::io::Read;
+
+// How many bytes stand at the start of the buffer, and why a read failed behind them, if one did.
+#[derive(Clone, Copy)]
 pub struct Input {
     pub len: usize,
-    pub failed: bool,
+    pub failed: Option<io::Error>,
 }
 
-fn read_fails() -> bool {
+fn read_fails(input: &mut impl Read) -> Option<io::Error> {
     let mut more = [0u8; 1];
-    libc::read(STDIN_FILENO, &mut more) < 0
+    input.read(&mut more).err()
 }
 
 // A count short of the buffer is the input's end or a failed read; one more read tells which. A caller whose input has a limit
-// lends a byte more than that, so that a longer input is seen to be one. Where a read failed, `errno` says why.
-pub fn read_all(buffer: &mut [u8]) -> Input
+// lends a byte more than that, so that a longer input is seen to be one.
+pub fn read_all(rt: &impl io::Input, buffer: &mut [u8]) -> Input
     ensures { IsPrefixLen result.len buffer.new }
 {
-    let len = io::read_full(STDIN_FILENO, buffer);
-    let failed = len < buffer.len() && read_fails();
+    let mut input = rt.reader();
+    let len = streams::read_full(&mut input, buffer);
+    let failed = if len < buffer.len() {
+        read_fails(&mut input)
+    } else {
+        None
+    };
     Input { len, failed }
 }

@@ -1,4 +1,6 @@
 // A subnegotiation's body as an end takes it up: the checks before its shape, in their order.
+#![tactic(auto)]
+
 ghost use Rattle.std.specs.Prelude.{◌≡◌};
 ghost use Rattle.reader.specs.Refinement.{view_reader};
 ghost use Rattle.subnegotiation.specs.Checks.{reads_rcte, in_force, disposition_checked, option_checked, checked};
@@ -8,7 +10,7 @@ use negotiation::{End, Sides};
 use reader::Reader;
 
 // The note that ends the handling of a body, or the option by which it is handled, in force at this end.
-#[derive(Drop)]
+#[derive(Clone, Copy)]
 pub enum Checked {
     Noted(Note),
     Rcte,

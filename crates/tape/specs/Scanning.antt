@@ -1,6 +1,6 @@
 -- A reader over a tape: what it stands at, the body there, and where it stands afterwards.
 use Rattle.std.specs.Prelude.{◌≡◌, Bool, true, false, cond, List, [], ◌∷◌, ℕ, zero, suc, ◌+◌, ◌≤◌, ◌<◌, length}
-use Rattle.std.specs.Borrow.{Bor}
+use denote.Ref.{Bor}
 use Rattle.tape.specs.declared.Found.{Found}
 use Rattle.tape.specs.declared.Found.TheVariants.{Field, End, Bad}
 use Rattle.tape.specs.declared.Moved.{Moved}

@@ -1,4 +1,6 @@
 // The tape: tagged fields, and the lines that a run of one prints.
+#![tactic(auto)]
+
 use keys::Key;
 use printer::Printer;
 
@@ -15,14 +17,14 @@ pub const KEYS: u8 = 2;
 
 pub const ASKS: u8 = 3;
 
-#[derive(Drop)]
+#[derive(Clone, Copy)]
 pub struct Cursor {
     pub at: usize,
 }
 
 // What stands at a cursor: a field, with its tag, where its body stands and the cursor past it; the tape's end; or a
 // field that is bad (an unknown tag, a cut field, an odd body of pairs).
-#[derive(Drop)]
+#[derive(Clone, Copy)]
 pub enum Found {
     Field {
         tag: u8,
@@ -35,28 +37,28 @@ pub enum Found {
 }
 
 // A reader over the host's tape: the tape, and a place on it.
-#[derive(Drop)]
+#[derive(Clone, Copy)]
 pub struct TapeReader<'a> {
     pub tape: &'a [u8],
     pub at: usize,
 }
 
 // What stands at a place, and the place after it.
-#[derive(Drop)]
+#[derive(Clone, Copy)]
 pub struct Moved {
     pub found: Found,
     pub at: usize,
 }
 
 // A key pair: a key, or a pair that stands for none.
-#[derive(Drop)]
+#[derive(Clone, Copy)]
 pub enum Pair {
     Typed(Key),
     Other,
 }
 
 // What an item did: the length of its line, the bytes that it wrote to the two lent buffers, and the state after it.
-#[derive(Drop)]
+#[derive(Clone, Copy)]
 pub struct Shown {
     pub written: usize,
     pub paper: usize,
@@ -66,7 +68,7 @@ pub struct Shown {
 
 // Where a run stands in its tape: the number of the field, the number of the next item, its field's tag, where it
 // stands and how many bytes of the body are left from there; where the next field stands; whether the run is over.
-#[derive(Drop)]
+#[derive(Clone, Copy)]
 pub struct Place {
     pub field: usize,
     pub item: usize,
@@ -78,7 +80,7 @@ pub struct Place {
 }
 
 // A run: the printer end, how much of the two lent buffers is used, and the place.
-#[derive(Drop)]
+#[derive(Clone, Copy)]
 pub struct Machine {
     pub printer: Printer,
     pub paper: usize,
@@ -87,7 +89,7 @@ pub struct Machine {
 }
 
 // A step: how many bytes it printed, and the run after it.
-#[derive(Drop)]
+#[derive(Clone, Copy)]
 pub struct Stepped {
     pub written: usize,
     pub machine: Machine,

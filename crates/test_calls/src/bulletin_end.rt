@@ -16,21 +16,22 @@ fn numbers_of(a: Answer) -> Numbers {
 
 // The call by value, in as much of the buffers as is lent.
 fn by_value(run: Run, c: BulletinCall, text: &[u8], host: &mut [u8], wire: &mut [u8]) -> Answer {
-    let h = io::count(run.paper, host);
-    let w = io::count(run.wire, wire);
+    let h = run.paper.min(host.len());
+    let w = run.wire.min(wire.len());
     let s = run.bulletin;
     by_value::bulletin(s, c, text, &mut host[..h], &mut wire[..w])
 }
 
 fn on_record(run: Run, c: BulletinCall, text: &[u8], host: &mut [u8], wire: &mut [u8]) -> Answer {
-    let h = io::count(run.paper, host);
-    let w = io::count(run.wire, wire);
+    let h = run.paper.min(host.len());
+    let w = run.wire.min(wire.len());
     let s = run.lent_bulletin;
     on_records::bulletin(s, c, text, &mut host[..h], &mut wire[..w])
 }
 
 // The answer on a lent record, if it is another than that by value.
 fn on_record_too(
+    rt: &impl Print,
     run: Run,
     c: BulletinCall,
     text: &[u8],
@@ -43,24 +44,24 @@ fn on_record_too(
     let mut own_wire = [0u8; WIRE_ROOM];
     let a = on_record(run, c, text, &mut own_host, &mut own_wire);
     let m = numbers_of(a);
-    if !(output::is_same(n, m) && check::same(host, &own_host) && check::same(wire, &own_wire)) {
-        output::say_otherwise(run.line, call);
-        output::say_answer(m, &own_host, &own_wire);
+    if !(output::is_same(n, m) && host == own_host.as_slice() && wire == own_wire.as_slice()) {
+        output::say_otherwise(rt, run.line, call);
+        output::say_answer(rt, m, &own_host, &own_wire);
     }
     a.state
 }
 
 // A call on both, and the line of its answer.
-fn made(run: Run, c: BulletinCall, text: &[u8], call: usize) -> Run {
+fn made(rt: &impl Print, run: Run, c: BulletinCall, text: &[u8], call: usize) -> Run {
     let mut host = [0u8; PAPER_ROOM];
     let mut wire = [0u8; WIRE_ROOM];
     let a = by_value(run, c, text, &mut host, &mut wire);
     let n = numbers_of(a);
     if !output::shows_nothing(n, 0) {
-        output::say_place(run.line, call);
-        output::say_answer(n, &host, &wire);
+        output::say_place(rt, run.line, call);
+        output::say_answer(rt, n, &host, &wire);
     }
-    let lent = on_record_too(run, c, text, call, n, &host, &wire);
+    let lent = on_record_too(rt, run, c, text, call, n, &host, &wire);
     let state = a.state;
     let mut after = run;
     after.bulletin = state;
@@ -68,33 +69,39 @@ fn made(run: Run, c: BulletinCall, text: &[u8], call: usize) -> Run {
     after
 }
 
-fn network(run: Run, bytes: &[u8]) -> Run {
+fn network(rt: &impl Print, run: Run, bytes: &[u8]) -> Run {
     let mut after = run;
     let mut i: usize = 0;
     while i < bytes.len() {
-        after = made(after, BulletinCall::Network(bytes[i]), bytes, i + 1);
+        after = made(rt, after, BulletinCall::Network(bytes[i]), bytes, i + 1);
         i += 1;
     }
     after
 }
 
-fn characters(run: Run, bytes: &[u8]) -> Run {
+fn characters(rt: &impl Print, run: Run, bytes: &[u8]) -> Run {
     let mut after = run;
     let mut i: usize = 0;
     while i < bytes.len() {
-        after = made(after, BulletinCall::Text(Key::Char(bytes[i])), bytes, i + 1);
+        after = made(
+            rt,
+            after,
+            BulletinCall::Text(Key::Char(bytes[i])),
+            bytes,
+            i + 1,
+        );
         i += 1;
     }
     after
 }
 
-fn items(run: Run, kind: Kind, bytes: &[u8]) -> Run {
+fn items(rt: &impl Print, run: Run, kind: Kind, bytes: &[u8]) -> Run {
     let item = words::item_of(kind, bytes);
     match item {
-        Item::Characters => characters(run, bytes),
-        Item::One(key) => made(run, BulletinCall::Text(key), bytes, 1),
-        Item::WrongCount => run::wrong_count(run),
-        Item::Unknown => run::refused(run, b"a text item is char, line or command"),
+        Item::Characters => characters(rt, run, bytes),
+        Item::One(key) => made(rt, run, BulletinCall::Text(key), bytes, 1),
+        Item::WrongCount => run::wrong_count(rt, run),
+        Item::Unknown => run::refused(rt, run, b"a text item is char, line or command"),
     }
 }
 
@@ -103,64 +110,70 @@ fn number(high: u8, low: u8) -> u16 {
     high as u16 * 256 + low as u16
 }
 
-fn order(run: Run, bytes: &[u8]) -> Run {
+fn order(rt: &impl Print, run: Run, bytes: &[u8]) -> Run {
     if bytes.len() == 5 {
         let breaks = number(bytes[1], bytes[2]);
         let sends = number(bytes[3], bytes[4]);
-        made(run, BulletinCall::Order(bytes[0], breaks, sends), bytes, 1)
+        made(
+            rt,
+            run,
+            BulletinCall::Order(bytes[0], breaks, sends),
+            bytes,
+            1,
+        )
     } else {
-        run::wrong_count(run)
+        run::wrong_count(rt, run)
     }
 }
 
 // The byte, then its text.
-fn define(run: Run, bytes: &[u8]) -> Run {
+fn define(rt: &impl Print, run: Run, bytes: &[u8]) -> Run {
     if bytes.len() > 0 {
-        made(run, BulletinCall::Define(bytes[0]), &bytes[1..], 1)
+        made(rt, run, BulletinCall::Define(bytes[0]), &bytes[1..], 1)
     } else {
-        run::wrong_count(run)
+        run::wrong_count(rt, run)
     }
 }
 
 // A call of one byte.
-fn of_one(run: Run, named: Named, bytes: &[u8]) -> Run {
+fn of_one(rt: &impl Print, run: Run, named: Named, bytes: &[u8]) -> Run {
     if bytes.len() != 1 {
-        return run::wrong_count(run);
+        return run::wrong_count(rt, run);
     }
     match named {
-        Named::Use => made(run, BulletinCall::Use(bytes[0]), bytes, 1),
-        _ => questions::status(run, bytes[0]),
+        Named::Use => made(rt, run, BulletinCall::Use(bytes[0]), bytes, 1),
+        _ => questions::status(rt, run, bytes[0]),
     }
 }
 
 // A call of two.
-fn of_two(run: Run, named: Named, bytes: &[u8]) -> Run {
+fn of_two(rt: &impl Print, run: Run, named: Named, bytes: &[u8]) -> Run {
     if bytes.len() != 2 {
-        return run::wrong_count(run);
+        return run::wrong_count(rt, run);
     }
     let a = bytes[0];
     let b = bytes[1];
     match named {
-        Named::Ask => made(run, BulletinCall::Ask(a, b), bytes, 1),
-        Named::Suggest => made(run, BulletinCall::Suggest(a, b), bytes, 1),
-        _ => made(run, BulletinCall::Issue(number(a, b)), bytes, 1),
+        Named::Ask => made(rt, run, BulletinCall::Ask(a, b), bytes, 1),
+        Named::Suggest => made(rt, run, BulletinCall::Suggest(a, b), bytes, 1),
+        _ => made(rt, run, BulletinCall::Issue(number(a, b)), bytes, 1),
     }
 }
 
-pub fn line_run(run: Run, named: Named, kind: Kind, bytes: &[u8]) -> Run {
+pub fn line_run(rt: &impl Print, run: Run, named: Named, kind: Kind, bytes: &[u8]) -> Run {
     let begun = run::next_line(run);
     match named {
-        Named::Network => network(begun, bytes),
-        Named::Text => items(begun, kind, bytes),
-        Named::Ask => of_two(begun, named, bytes),
-        Named::Suggest => of_two(begun, named, bytes),
-        Named::Order => order(begun, bytes),
-        Named::Define => define(begun, bytes),
-        Named::Use => of_one(begun, named, bytes),
-        Named::Issue => of_two(begun, named, bytes),
-        Named::Status => of_one(begun, named, bytes),
-        Named::Report => questions::of_bulletin(begun, named, bytes),
-        Named::Output => questions::of_bulletin(begun, named, bytes),
-        _ => run::refused(begun, b"no such call at the bulletin end"),
+        Named::Network => network(rt, begun, bytes),
+        Named::Text => items(rt, begun, kind, bytes),
+        Named::Ask => of_two(rt, begun, named, bytes),
+        Named::Suggest => of_two(rt, begun, named, bytes),
+        Named::Order => order(rt, begun, bytes),
+        Named::Define => define(rt, begun, bytes),
+        Named::Use => of_one(rt, begun, named, bytes),
+        Named::Issue => of_two(rt, begun, named, bytes),
+        Named::Status => of_one(rt, begun, named, bytes),
+        Named::Report => questions::of_bulletin(rt, begun, named, bytes),
+        Named::Output => questions::of_bulletin(rt, begun, named, bytes),
+        _ => run::refused(rt, begun, b"no such call at the bulletin end"),
     }
 }

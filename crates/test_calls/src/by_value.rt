@@ -3,7 +3,7 @@ use bulletin::Bulletin;
 use keys::Key;
 use printer::Printer;
 
-#[derive(Drop)]
+#[derive(Clone, Copy)]
 pub enum PrinterCall {
     Network(u8),
     Press(Key),
@@ -12,7 +12,7 @@ pub enum PrinterCall {
 }
 
 // The text of a DEFINE goes beside it.
-#[derive(Drop)]
+#[derive(Clone, Copy)]
 pub enum BulletinCall {
     Network(u8),
     Ask(u8, u8),

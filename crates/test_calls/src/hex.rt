@@ -9,13 +9,13 @@ pub const ROOM: usize = 1024;
 // What is told of bytes that cannot be read.
 pub const BAD: usize = 1025;
 
-#[derive(Drop)]
+#[derive(Clone, Copy)]
 struct Taken {
     at: usize,
     count: usize,
 }
 
-#[derive(Drop)]
+#[derive(Clone, Copy)]
 pub struct Number {
     pub value: usize,
     pub next: usize,

@@ -1,5 +1,7 @@
 // Makes the calls of each list that an argument names and prints their answers: once on ends by value and once on lent
 // records, with a line more where the second answers otherwise. docs/CALLS.md says what stands in a list and in the answers.
+#![tactic(auto)]
+
 mod bulletin_end;
 mod by_value;
 mod hex;
@@ -11,40 +13,45 @@ mod questions;
 mod run;
 mod words;
 
+use std::io::Read;
+
 // A longer list is not run.
 const LIST_ROOM: usize = 65536;
 
-fn run_file(fd: i32) {
-    let mut text = io::large_buffer();
-    let n = io::read_full(fd, &mut text);
+fn run_file(rt: &impl Print, file: &mut impl Read) {
+    let mut text = [0u8; LIST_ROOM];
+    let n = streams::read_full(file, &mut text);
     if n < LIST_ROOM {
-        line::run_list(&text[..n]);
+        line::run_list(rt, &text[..n]);
     } else {
-        output::say(b"a list is shorter than 65,536 bytes\n");
+        output::say(rt, b"a list is shorter than 65,536 bytes\n");
     }
 }
 
-fn run_named(i: usize) {
-    let mut path = io::large_buffer();
-    let n = os::arg(i, &mut path);
-    if os::errno() != 0 {
-        os::fail(b"an argument");
-        return;
-    }
-    let fd = os::open_read(&path[..n]);
-    if fd < 0 {
-        os::fail(&path[..n]);
-        return;
-    }
-    run_file(fd);
-    libc::close(fd);
+fn run_named(rt: &HostRuntime, i: usize) {
+    let mut path = [0u8; 65536];
+    let n = match streams::arg(rt, i, &mut path) {
+        Ok(n) => n,
+        Err(error) => {
+            streams::fail(&rt.stderr(), b"an argument", error);
+            return;
+        }
+    };
+    let mut file = match streams::open_read(rt, &path[..n]) {
+        Ok(file) => file,
+        Err(error) => {
+            streams::fail(&rt.stderr(), &path[..n], error);
+            return;
+        }
+    };
+    run_file(rt, &mut file);
 }
 
-fn main() {
-    let count = os::arg_count();
+fn main(rt: HostRuntime) {
+    let count = streams::arg_count(&rt);
     let mut i: usize = 1;
     while i < count {
-        run_named(i);
+        run_named(&rt, i);
         i += 1;
     }
 }

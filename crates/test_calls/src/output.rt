@@ -2,10 +2,9 @@
 ghost use Rattle.std.specs.Prelude.{◌<◌};
 
 use codes::{Code, Note};
-use libc::STDOUT_FILENO;
 
 // The numbers of an answer: its code, its note, the bytes in its two buffers, and how many keys wait after it.
-#[derive(Drop)]
+#[derive(Clone, Copy)]
 pub struct Numbers {
     pub code: u8,
     pub note: u8,
@@ -26,16 +25,16 @@ pub fn numbers_of(code: Code, note: Note, first: usize, wire: usize, waiting: us
     }
 }
 
-pub fn say(text: &[u8]) {
-    io::write_all(STDOUT_FILENO, text);
+pub fn say(rt: &impl Print, text: &[u8]) {
+    let _ = rt.write_all(text);
 }
 
-pub fn say_number(n: usize) {
-    io::print_decimal(STDOUT_FILENO, n as u64);
+pub fn say_number(rt: &impl Print, n: usize) {
+    let _ = rt.print(n);
 }
 
-fn say_small(n: u8) {
-    io::print_decimal(STDOUT_FILENO, n as u64);
+fn say_small(rt: &impl Print, n: u8) {
+    let _ = rt.print(n);
 }
 
 // Hex capitals.
@@ -45,31 +44,31 @@ fn hex_digit(n: u8) -> u8
     if n < 10 { b'0' + n } else { b'A' + (n - 10) }
 }
 
-fn say_byte(b: u8) {
-    say(&[hex_digit(b / 16), hex_digit(b % 16)]);
+fn say_byte(rt: &impl Print, b: u8) {
+    say(rt, &[hex_digit(b / 16), hex_digit(b % 16)]);
 }
 
 // The first bytes of a buffer, as many as a call has written.
-fn say_hex(bytes: &[u8], count: usize) {
+fn say_hex(rt: &impl Print, bytes: &[u8], count: usize) {
     if count == 0 {
-        say(b"-");
+        say(rt, b"-");
     }
     let mut i: usize = 0;
     while i < bytes.len() {
         if i == count {
             return;
         }
-        say_byte(bytes[i]);
+        say_byte(rt, bytes[i]);
         i += 1;
     }
 }
 
 // Which call of which line.
-pub fn say_place(line: usize, call: usize) {
-    say_number(line);
-    say(b".");
-    say_number(call);
-    say(b" ");
+pub fn say_place(rt: &impl Print, line: usize, call: usize) {
+    say_number(rt, line);
+    say(rt, b".");
+    say_number(rt, call);
+    say(rt, b" ");
 }
 
 // Nothing to be shown: as many keys wait as before, and all else is none.
@@ -85,21 +84,21 @@ pub fn is_same(a: Numbers, b: Numbers) -> bool {
         && a.waiting == b.waiting
 }
 
-pub fn say_answer(n: Numbers, first: &[u8], wire: &[u8]) {
-    say_small(n.code);
-    say(b" ");
-    say_small(n.note);
-    say(b" ");
-    say_hex(first, n.first);
-    say(b" ");
-    say_hex(wire, n.wire);
-    say(b" ");
-    say_number(n.waiting);
-    say(b"\n");
+pub fn say_answer(rt: &impl Print, n: Numbers, first: &[u8], wire: &[u8]) {
+    say_small(rt, n.code);
+    say(rt, b" ");
+    say_small(rt, n.note);
+    say(rt, b" ");
+    say_hex(rt, first, n.first);
+    say(rt, b" ");
+    say_hex(rt, wire, n.wire);
+    say(rt, b" ");
+    say_number(rt, n.waiting);
+    say(rt, b"\n");
 }
 
 // A call on a lent record answered otherwise than by value.
-pub fn say_otherwise(line: usize, call: usize) {
-    say_place(line, call);
-    say(b"on a lent record otherwise: ");
+pub fn say_otherwise(rt: &impl Print, line: usize, call: usize) {
+    say_place(rt, line, call);
+    say(rt, b"on a lent record otherwise: ");
 }

@@ -23,21 +23,22 @@ fn numbers_of(a: Answer) -> Numbers {
 
 // The call by value, in as much of the buffers as is lent.
 fn by_value(run: Run, c: PrinterCall, paper: &mut [u8], wire: &mut [u8]) -> Answer {
-    let p = io::count(run.paper, paper);
-    let w = io::count(run.wire, wire);
+    let p = run.paper.min(paper.len());
+    let w = run.wire.min(wire.len());
     let s = run.printer;
     by_value::printer(s, c, &mut paper[..p], &mut wire[..w])
 }
 
 fn on_record(run: Run, c: PrinterCall, paper: &mut [u8], wire: &mut [u8]) -> Answer {
-    let p = io::count(run.paper, paper);
-    let w = io::count(run.wire, wire);
+    let p = run.paper.min(paper.len());
+    let w = run.wire.min(wire.len());
     let s = run.lent_printer;
     on_records::printer(s, c, &mut paper[..p], &mut wire[..w])
 }
 
 // The answer on a lent record, if it is another than that by value.
 fn on_record_too(
+    rt: &impl Print,
     run: Run,
     c: PrinterCall,
     call: usize,
@@ -49,25 +50,25 @@ fn on_record_too(
     let mut own_wire = [0u8; WIRE_ROOM];
     let a = on_record(run, c, &mut own_paper, &mut own_wire);
     let m = numbers_of(a);
-    if !(output::is_same(n, m) && check::same(paper, &own_paper) && check::same(wire, &own_wire)) {
-        output::say_otherwise(run.line, call);
-        output::say_answer(m, &own_paper, &own_wire);
+    if !(output::is_same(n, m) && paper == own_paper.as_slice() && wire == own_wire.as_slice()) {
+        output::say_otherwise(rt, run.line, call);
+        output::say_answer(rt, m, &own_paper, &own_wire);
     }
     a.state
 }
 
 // A call on both, and the line of its answer.
-fn made(run: Run, c: PrinterCall, call: usize) -> Run {
+fn made(rt: &impl Print, run: Run, c: PrinterCall, call: usize) -> Run {
     let mut paper = [0u8; PAPER_ROOM];
     let mut wire = [0u8; WIRE_ROOM];
     let a = by_value(run, c, &mut paper, &mut wire);
     let n = numbers_of(a);
     let before = run.printer;
     if !output::shows_nothing(n, waiting_in(before)) {
-        output::say_place(run.line, call);
-        output::say_answer(n, &paper, &wire);
+        output::say_place(rt, run.line, call);
+        output::say_answer(rt, n, &paper, &wire);
     }
-    let lent = on_record_too(run, c, call, n, &paper, &wire);
+    let lent = on_record_too(rt, run, c, call, n, &paper, &wire);
     let state = a.state;
     let mut after = run;
     after.printer = state;
@@ -75,55 +76,55 @@ fn made(run: Run, c: PrinterCall, call: usize) -> Run {
     after
 }
 
-fn network(run: Run, bytes: &[u8]) -> Run {
+fn network(rt: &impl Print, run: Run, bytes: &[u8]) -> Run {
     let mut after = run;
     let mut i: usize = 0;
     while i < bytes.len() {
-        after = made(after, PrinterCall::Network(bytes[i]), i + 1);
+        after = made(rt, after, PrinterCall::Network(bytes[i]), i + 1);
         i += 1;
     }
     after
 }
 
-fn characters(run: Run, bytes: &[u8]) -> Run {
+fn characters(rt: &impl Print, run: Run, bytes: &[u8]) -> Run {
     let mut after = run;
     let mut i: usize = 0;
     while i < bytes.len() {
-        after = made(after, PrinterCall::Press(Key::Char(bytes[i])), i + 1);
+        after = made(rt, after, PrinterCall::Press(Key::Char(bytes[i])), i + 1);
         i += 1;
     }
     after
 }
 
-fn keys(run: Run, kind: Kind, bytes: &[u8]) -> Run {
+fn keys(rt: &impl Print, run: Run, kind: Kind, bytes: &[u8]) -> Run {
     let item = words::item_of(kind, bytes);
     match item {
-        Item::Characters => characters(run, bytes),
-        Item::One(key) => made(run, PrinterCall::Press(key), 1),
-        Item::WrongCount => run::wrong_count(run),
-        Item::Unknown => run::refused(run, b"a key is char, line or command"),
+        Item::Characters => characters(rt, run, bytes),
+        Item::One(key) => made(rt, run, PrinterCall::Press(key), 1),
+        Item::WrongCount => run::wrong_count(rt, run),
+        Item::Unknown => run::refused(rt, run, b"a key is char, line or command"),
     }
 }
 
 // A call of two bytes.
-fn of_two(run: Run, named: Named, bytes: &[u8]) -> Run {
+fn of_two(rt: &impl Print, run: Run, named: Named, bytes: &[u8]) -> Run {
     if bytes.len() != 2 {
-        return run::wrong_count(run);
+        return run::wrong_count(rt, run);
     }
     match named {
-        Named::Ask => made(run, PrinterCall::Ask(bytes[0], bytes[1]), 1),
-        _ => made(run, PrinterCall::Suggest(bytes[0], bytes[1]), 1),
+        Named::Ask => made(rt, run, PrinterCall::Ask(bytes[0], bytes[1]), 1),
+        _ => made(rt, run, PrinterCall::Suggest(bytes[0], bytes[1]), 1),
     }
 }
 
-pub fn line_run(run: Run, named: Named, kind: Kind, bytes: &[u8]) -> Run {
+pub fn line_run(rt: &impl Print, run: Run, named: Named, kind: Kind, bytes: &[u8]) -> Run {
     let begun = run::next_line(run);
     match named {
-        Named::Network => network(begun, bytes),
-        Named::Key => keys(begun, kind, bytes),
-        Named::Ask => of_two(begun, named, bytes),
-        Named::Suggest => of_two(begun, named, bytes),
-        Named::Report => questions::of_printer(begun, bytes),
-        _ => run::refused(begun, b"no such call at the printer end"),
+        Named::Network => network(rt, begun, bytes),
+        Named::Key => keys(rt, begun, kind, bytes),
+        Named::Ask => of_two(rt, begun, named, bytes),
+        Named::Suggest => of_two(rt, begun, named, bytes),
+        Named::Report => questions::of_printer(rt, begun, bytes),
+        _ => run::refused(rt, begun, b"no such call at the printer end"),
     }
 }

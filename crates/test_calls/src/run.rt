@@ -8,15 +8,15 @@ pub const PAPER_ROOM: usize = 4096;
 
 pub const WIRE_ROOM: usize = 8192;
 
-#[derive(Drop)]
+#[derive(Clone, Copy)]
 pub struct Run {
     pub printer: Printer,
     pub bulletin: Bulletin,
     pub lent_printer: Printer,
     pub lent_bulletin: Bulletin,
     // how large a buffer is lent to a call
-    pub paper: isize,
-    pub wire: isize,
+    pub paper: usize,
+    pub wire: usize,
     // the line of the file, and among the lines of calls of this example; whether there was a call at all
     pub number: usize,
     pub line: usize,
@@ -32,8 +32,8 @@ pub fn begin() -> Run {
         bulletin,
         lent_printer: printer,
         lent_bulletin: bulletin,
-        paper: PAPER_ROOM as isize,
-        wire: WIRE_ROOM as isize,
+        paper: PAPER_ROOM,
+        wire: WIRE_ROOM,
         number: 0,
         line: 0,
         called: false,
@@ -51,30 +51,30 @@ pub fn afresh(run: Run) -> Run {
 
 pub fn next_number(run: Run) -> Run {
     let mut next = run;
-    next.number = std::num::wrapping_add_usize(run.number, 1);
+    next.number = run.number.wrapping_add(1);
     next
 }
 
 // A line of calls begins.
 pub fn next_line(run: Run) -> Run {
     let mut next = run;
-    next.line = std::num::wrapping_add_usize(run.line, 1);
+    next.line = run.line.wrapping_add(1);
     next.called = true;
     next
 }
 
 // A bad line ends the list.
-pub fn refused(run: Run, why: &[u8]) -> Run {
-    output::say(b"bad line ");
-    output::say_number(run.number);
-    output::say(b": ");
-    output::say(why);
-    output::say(b"\n");
+pub fn refused(rt: &impl Print, run: Run, why: &[u8]) -> Run {
+    output::say(rt, b"bad line ");
+    output::say_number(rt, run.number);
+    output::say(rt, b": ");
+    output::say(rt, why);
+    output::say(rt, b"\n");
     let mut over = run;
     over.is_over = true;
     over
 }
 
-pub fn wrong_count(run: Run) -> Run {
-    refused(run, b"this call takes another number of bytes")
+pub fn wrong_count(rt: &impl Print, run: Run) -> Run {
+    refused(rt, run, b"this call takes another number of bytes")
 }

@@ -3,7 +3,7 @@ ghost use Rattle.std.specs.Prelude.{◌≤◌, length};
 
 use keys::Key;
 
-#[derive(Drop)]
+#[derive(Clone, Copy)]
 pub enum Named {
     Network,
     Key,
@@ -21,7 +21,7 @@ pub enum Named {
     Unknown,
 }
 
-#[derive(Drop)]
+#[derive(Clone, Copy)]
 pub enum Kind {
     Char,
     Line,
@@ -30,7 +30,7 @@ pub enum Kind {
 }
 
 // What a line of keys or text items has: any number of characters, or one Line or Command.
-#[derive(Drop)]
+#[derive(Clone, Copy)]
 pub enum Item {
     Characters,
     One(Key),
@@ -39,7 +39,7 @@ pub enum Item {
 }
 
 // The call, the kind behind `key` or `text`, and the place behind them.
-#[derive(Drop)]
+#[derive(Clone, Copy)]
 pub struct Head {
     pub named: Named,
     pub kind: Kind,
@@ -79,11 +79,7 @@ fn past_word(line: &[u8], at: usize) -> usize
 }
 
 fn if_same(word: &[u8], text: &[u8], n: Named) -> Named {
-    if check::same(word, text) {
-        n
-    } else {
-        Named::Unknown
-    }
+    if word == text { n } else { Named::Unknown }
 }
 
 fn named_with_s(word: &[u8]) -> Named {
@@ -131,13 +127,13 @@ fn name_of(word: &[u8]) -> Named {
 }
 
 fn kind_of(word: &[u8]) -> Kind {
-    if check::same(word, b"char") {
+    if word == b"char".as_slice() {
         return Kind::Char;
     }
-    if check::same(word, b"line") {
+    if word == b"line".as_slice() {
         return Kind::Line;
     }
-    if check::same(word, b"command") {
+    if word == b"command".as_slice() {
         Kind::Command
     } else {
         Kind::Unknown

@@ -1,37 +1,42 @@
 // Replays each tape that an argument names: its name on a line, and its lines.
-use libc::STDOUT_FILENO;
+#![tactic(auto)]
 
-fn print_file(fd: i32) {
+use std::io::Read;
+
+fn print_file(rt: &HostRuntime, file: &mut impl Read) {
     let mut tape = [0u8; 65537];
-    let n = io::read_full(fd, &mut tape);
-    if !tape_output::print_tape(&tape[..n]) {
-        os::fail(b"standard output");
+    let n = streams::read_full(file, &mut tape);
+    if let Err(error) = tape_output::print_tape(rt, &tape[..n]) {
+        streams::fail(&rt.stderr(), b"standard output", error);
     }
 }
 
-fn print_named(i: usize) {
-    let mut path = io::large_buffer();
-    let n = os::arg(i, &mut path);
-    if os::errno() != 0 {
-        os::fail(b"an argument");
-        return;
-    }
-    let fd = os::open_read(&path[..n]);
-    if fd < 0 {
-        os::fail(&path[..n]);
-        return;
-    }
-    io::write_all(STDOUT_FILENO, &path[..n]);
-    io::write_all(STDOUT_FILENO, b"\n");
-    print_file(fd);
-    libc::close(fd);
+fn print_named(rt: &HostRuntime, i: usize) {
+    let mut path = [0u8; 65536];
+    let n = match streams::arg(rt, i, &mut path) {
+        Ok(n) => n,
+        Err(error) => {
+            streams::fail(&rt.stderr(), b"an argument", error);
+            return;
+        }
+    };
+    let mut file = match streams::open_read(rt, &path[..n]) {
+        Ok(file) => file,
+        Err(error) => {
+            streams::fail(&rt.stderr(), &path[..n], error);
+            return;
+        }
+    };
+    let _ = rt.write_all(&path[..n]);
+    let _ = rt.write_all(b"\n");
+    print_file(rt, &mut file);
 }
 
-fn main() {
-    let count = os::arg_count();
+fn main(rt: HostRuntime) {
+    let count = streams::arg_count(&rt);
     let mut i: usize = 1;
     while i < count {
-        print_named(i);
+        print_named(&rt, i);
         i += 1;
     }
 }

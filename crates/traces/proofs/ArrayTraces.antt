@@ -7,7 +7,7 @@ use Rattle.codes.specs.Answers.{is_done}
 use Rattle.codes.specs.declared.Code.{Code}
 use Rattle.codes.specs.declared.Code.TheVariants.{Done}
 use Rattle.printer.specs.Session as PS
-use Rattle.printer.specs.Refinement as ParamKind
+use Rattle.printer.specs.Refinement as PK
 use Rattle.printer.specs.Refinement.{view_printer}
 use Rattle.printer.specs.declared.Printer.{Printer}
 use Rattle.bulletin.specs.Session as BS
@@ -52,7 +52,7 @@ module _ (s : Printer) (m : PrinterOnArrays) (g : PrinterMeetsOnArrays (encoded_
   printer_by : P.MeetsContract s printer_call
   unfolding printer_call
   printer_by =
-      subst (λ (t : Printer). ParamKind.RefinesOutcome (PS.called (view_printer t) (P.call_of printer_call)) t m.paper m.wire g.answer) (printer_found_again s) g.refines
+      subst (λ (t : Printer). PK.RefinesOutcome (PS.called (view_printer t) (P.call_of printer_call)) t m.paper m.wire g.answer) (printer_found_again s) g.refines
 
   printer_kept : m.next ≡ encoded_printer (P.after printer_call)
   unfolding printer_call

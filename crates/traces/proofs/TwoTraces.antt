@@ -17,6 +17,8 @@ use Rattle.traces.proofs.Determined.{count_is_waiting}
 module _ (R : CallEffect → CallEffect → Type 0) (S : AnsweredCall → AnsweredCall → Type 0) (each : (a b : CallEffect) (m n : AnsweredCall) → AsRuled a m → AsRuled b n → R a b → S m n) where
   across : {xs ys : List CallEffect} {ms ns : List AnsweredCall} → Beside AsRuled xs ms → Beside AsRuled ys ns → Each R xs ys → Beside S ms ns
   across Beside.none Beside.none Each.none = Beside.none
+  across Beside.none (Beside.more s ss) e = elim e [ ]
+  across (Beside.more r rs) Beside.none e = elim e [ ]
   across (Beside.more r rs) (Beside.more s ss) (Each.more t ts) = Beside.more (each _ _ _ _ r s t) (across rs ss ts)
 
 module _ {xs ys : List ℕ} {one other : Lent} {n k : ℕ} (w : WroteAtStart xs one n) (u : WroteAtStart ys other k) where

@@ -9,7 +9,7 @@ use denote.Triple.Clauses.{AtExit}
 use Rattle.lists.specs.Buffers.{Lent, lent_as, untouched}
 use Rattle.codes.specs.declared.Code.TheVariants.{Done}
 use Rattle.printer.specs.Session as PS
-use Rattle.printer.specs.Refinement as ParamKind
+use Rattle.printer.specs.Refinement as PK
 use Rattle.printer.specs.Refinement.{view_printer}
 use Rattle.printer.specs.declared.Printer.{Printer}
 use Rattle.bulletin.specs.Session as BS
@@ -70,7 +70,7 @@ printer_lent args paper wire r s = record { args = args; paper = paper; wire = w
 -- what its contract says, the record holding s as it is called
 abbrev pub PrinterMeetsContract : Printer → PrinterLent → Type 0
 PrinterMeetsContract s m =
-    ParamKind.RefinesOutcome (PS.called (view_printer s) (P.call_of (printer_by_value m))) s m.paper m.wire (printer_answer m.outcome m.next)
+    PK.RefinesOutcome (PS.called (view_printer s) (P.call_of (printer_by_value m))) s m.paper m.wire (printer_answer m.outcome m.next)
 
 -- calls on a record that holds s
 abbrev pub PrinterLentTrace : Printer → List PrinterLent → Type 0
@@ -78,7 +78,7 @@ PrinterLentTrace s ms = Chain PrinterMeetsContract (λ m. m.next) s ms
 
 pub record PrinterLentFromFresh (ms : List PrinterLent) : Type 0 where
   pub start : Printer
-  pub is_fresh : start ≡ ParamKind.fresh_cells
+  pub is_fresh : start ≡ PK.fresh_cells
   pub run : PrinterLentTrace start ms
 
 -- Assumed: any trace on a record. Promised: it is a trace by value, with the same arguments, buffers, answers and states.
@@ -245,28 +245,28 @@ BulletinLentOnWire =
 abbrev pub PrinterNetworkEnsures : Type 2
 PrinterNetworkEnsures =
     (w : World) (κs : Lfts 3) (a : ArgsD printer-network-byte.signature κs) (r : ResD printer-network-byte.signature κs) (e : AtExit printer-network-byte.ended κs)
-    → (printer-network-byte.clauses w.𝓛 w.𝓜.mem w.𝓡.run κs a).ensures tt r e
+    → (printer-network-byte.clauses w.𝓛 w.𝓜.mem w.𝓡.returns κs a).ensures tt r e
     ≡ fact w.𝓤 (PrinterMeetsContract a.0.now (printer_lent (P.Args.network a.1.0) (lent_as a.1.1.0.now e.1.1.0.now) (lent_as a.1.1.1.0.now e.1.1.1.0.now) r e.0.now))
 
 -- The same of `press`. Ruled out: another key than the one pressed; a record that stays as it was.
 abbrev pub PrinterPressEnsures : Type 2
 PrinterPressEnsures =
     (w : World) (κs : Lfts 3) (a : ArgsD printer-press.signature κs) (r : ResD printer-press.signature κs) (e : AtExit printer-press.ended κs)
-    → (printer-press.clauses w.𝓛 w.𝓜.mem w.𝓡.run κs a).ensures tt r e
+    → (printer-press.clauses w.𝓛 w.𝓜.mem w.𝓡.returns κs a).ensures tt r e
     ≡ fact w.𝓤 (PrinterMeetsContract a.0.now (printer_lent (P.Args.key a.1.0) (lent_as a.1.1.0.now e.1.1.0.now) (lent_as a.1.1.1.0.now e.1.1.1.0.now) r e.0.now))
 
 -- The same of `ask`. Ruled out: option and way exchanged; a record that stays as it was.
 abbrev pub PrinterAskEnsures : Type 2
 PrinterAskEnsures =
     (w : World) (κs : Lfts 3) (a : ArgsD printer-ask.signature κs) (r : ResD printer-ask.signature κs) (e : AtExit printer-ask.ended κs)
-    → (printer-ask.clauses w.𝓛 w.𝓜.mem w.𝓡.run κs a).ensures tt r e
+    → (printer-ask.clauses w.𝓛 w.𝓜.mem w.𝓡.returns κs a).ensures tt r e
     ≡ fact w.𝓤 (PrinterMeetsContract a.0.now (printer_lent (P.Args.ask a.1.0 a.1.1.0) (lent_as a.1.1.1.0.now e.1.1.1.0.now) (lent_as a.1.1.1.1.0.now e.1.1.1.1.0.now) r e.0.now))
 
 -- The same of `suggest`. Ruled out: option and value exchanged; a record that stays as it was.
 abbrev pub PrinterSuggestEnsures : Type 2
 PrinterSuggestEnsures =
     (w : World) (κs : Lfts 3) (a : ArgsD printer-suggest.signature κs) (r : ResD printer-suggest.signature κs) (e : AtExit printer-suggest.ended κs)
-    → (printer-suggest.clauses w.𝓛 w.𝓜.mem w.𝓡.run κs a).ensures tt r e
+    → (printer-suggest.clauses w.𝓛 w.𝓜.mem w.𝓡.returns κs a).ensures tt r e
     ≡ fact w.𝓤 (PrinterMeetsContract a.0.now (printer_lent (P.Args.suggest a.1.0 a.1.1.0) (lent_as a.1.1.1.0.now e.1.1.1.0.now) (lent_as a.1.1.1.1.0.now e.1.1.1.1.0.now) r e.0.now))
 
 -- The same at the bulletin end, first of `network_byte`. Ruled out: a record that stays as it was; the two buffers
@@ -274,54 +274,54 @@ PrinterSuggestEnsures =
 abbrev pub BulletinNetworkEnsures : Type 2
 BulletinNetworkEnsures =
     (w : World) (κs : Lfts 3) (a : ArgsD bulletin-network-byte.signature κs) (r : ResD bulletin-network-byte.signature κs) (e : AtExit bulletin-network-byte.ended κs)
-    → (bulletin-network-byte.clauses w.𝓛 w.𝓜.mem w.𝓡.run κs a).ensures tt r e
+    → (bulletin-network-byte.clauses w.𝓛 w.𝓜.mem w.𝓡.returns κs a).ensures tt r e
     ≡ fact w.𝓤 (BulletinMeetsContract a.0.now (bulletin_lent (B.Args.network a.1.0) (lent_as a.1.1.0.now e.1.1.0.now) (lent_as a.1.1.1.0.now e.1.1.1.0.now) r e.0.now))
 
 -- The same of `ask`. Ruled out: option and way exchanged; a record that stays as it was.
 abbrev pub BulletinAskEnsures : Type 2
 BulletinAskEnsures =
     (w : World) (κs : Lfts 2) (a : ArgsD bulletin-ask.signature κs) (r : ResD bulletin-ask.signature κs) (e : AtExit bulletin-ask.ended κs)
-    → (bulletin-ask.clauses w.𝓛 w.𝓜.mem w.𝓡.run κs a).ensures tt r e
+    → (bulletin-ask.clauses w.𝓛 w.𝓜.mem w.𝓡.returns κs a).ensures tt r e
     ≡ fact w.𝓤 (BulletinMeetsContractOnWire a.0.now (B.Args.ask a.1.0 a.1.1.0) (lent_as a.1.1.1.0.now e.1.1.1.0.now) r e.0.now)
 
 -- The same of `suggest`. Ruled out: option and value exchanged; a record that stays as it was.
 abbrev pub BulletinSuggestEnsures : Type 2
 BulletinSuggestEnsures =
     (w : World) (κs : Lfts 2) (a : ArgsD bulletin-suggest.signature κs) (r : ResD bulletin-suggest.signature κs) (e : AtExit bulletin-suggest.ended κs)
-    → (bulletin-suggest.clauses w.𝓛 w.𝓜.mem w.𝓡.run κs a).ensures tt r e
+    → (bulletin-suggest.clauses w.𝓛 w.𝓜.mem w.𝓡.returns κs a).ensures tt r e
     ≡ fact w.𝓤 (BulletinMeetsContractOnWire a.0.now (B.Args.suggest a.1.0 a.1.1.0) (lent_as a.1.1.1.0.now e.1.1.1.0.now) r e.0.now)
 
 -- The same of `order`. Ruled out: break and transmission classes exchanged; a record that stays as it was.
 abbrev pub BulletinOrderEnsures : Type 2
 BulletinOrderEnsures =
     (w : World) (κs : Lfts 2) (a : ArgsD bulletin-order.signature κs) (r : ResD bulletin-order.signature κs) (e : AtExit bulletin-order.ended κs)
-    → (bulletin-order.clauses w.𝓛 w.𝓜.mem w.𝓡.run κs a).ensures tt r e
+    → (bulletin-order.clauses w.𝓛 w.𝓜.mem w.𝓡.returns κs a).ensures tt r e
     ≡ fact w.𝓤 (BulletinMeetsContractOnWire a.0.now (B.Args.order a.1.0 a.1.1.0 a.1.1.1.0) (lent_as a.1.1.1.1.0.now e.1.1.1.1.0.now) r e.0.now)
 
 -- The same of `define`. Ruled out: another text than the one lent; a record that stays as it was.
 abbrev pub BulletinDefineEnsures : Type 2
 BulletinDefineEnsures =
     (w : World) (κs : Lfts 3) (a : ArgsD bulletin-define.signature κs) (r : ResD bulletin-define.signature κs) (e : AtExit bulletin-define.ended κs)
-    → (bulletin-define.clauses w.𝓛 w.𝓜.mem w.𝓡.run κs a).ensures tt r e
+    → (bulletin-define.clauses w.𝓛 w.𝓜.mem w.𝓡.returns κs a).ensures tt r e
     ≡ fact w.𝓤 (BulletinMeetsContractOnWire a.0.now (B.Args.define a.1.0 a.1.1.0.now) (lent_as a.1.1.1.0.now e.1.1.1.0.now) r e.0.now)
 
 -- The same of `use_macro`. Ruled out: another byte than the one used; a record that stays as it was.
 abbrev pub BulletinUseEnsures : Type 2
 BulletinUseEnsures =
     (w : World) (κs : Lfts 2) (a : ArgsD bulletin-use-macro.signature κs) (r : ResD bulletin-use-macro.signature κs) (e : AtExit bulletin-use-macro.ended κs)
-    → (bulletin-use-macro.clauses w.𝓛 w.𝓜.mem w.𝓡.run κs a).ensures tt r e
+    → (bulletin-use-macro.clauses w.𝓛 w.𝓜.mem w.𝓡.returns κs a).ensures tt r e
     ≡ fact w.𝓤 (BulletinMeetsContractOnWire a.0.now (B.Args.use_macro a.1.0) (lent_as a.1.1.0.now e.1.1.0.now) r e.0.now)
 
 -- The same of `text_item`. Ruled out: another item than the one given; a record that stays as it was.
 abbrev pub BulletinTextEnsures : Type 2
 BulletinTextEnsures =
     (w : World) (κs : Lfts 2) (a : ArgsD bulletin-text-item.signature κs) (r : ResD bulletin-text-item.signature κs) (e : AtExit bulletin-text-item.ended κs)
-    → (bulletin-text-item.clauses w.𝓛 w.𝓜.mem w.𝓡.run κs a).ensures tt r e
+    → (bulletin-text-item.clauses w.𝓛 w.𝓜.mem w.𝓡.returns κs a).ensures tt r e
     ≡ fact w.𝓤 (BulletinMeetsContractOnWire a.0.now (B.Args.text a.1.0) (lent_as a.1.1.0.now e.1.1.0.now) r e.0.now)
 
 -- The same of `issue`. Ruled out: another number than the one given; a record that stays as it was.
 abbrev pub BulletinIssueEnsures : Type 2
 BulletinIssueEnsures =
     (w : World) (κs : Lfts 2) (a : ArgsD bulletin-issue.signature κs) (r : ResD bulletin-issue.signature κs) (e : AtExit bulletin-issue.ended κs)
-    → (bulletin-issue.clauses w.𝓛 w.𝓜.mem w.𝓡.run κs a).ensures tt r e
+    → (bulletin-issue.clauses w.𝓛 w.𝓜.mem w.𝓡.returns κs a).ensures tt r e
     ≡ fact w.𝓤 (BulletinMeetsContractOnWire a.0.now (B.Args.issue a.1.0) (lent_as a.1.1.0.now e.1.1.0.now) r e.0.now)

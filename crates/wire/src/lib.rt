@@ -1,5 +1,7 @@
 // What is written on the wire: bytes with IAC doubled, negotiations, subnegotiation frames. Each encoder is handed the
 // output behind what was written so far, and writes at its beginning.
+#![tactic(auto)]
+
 ghost use Rattle.lists.specs.Buffers.{lent, WroteAtStart, RoomFor};
 ghost use Rattle.keys.specs.Keys.{key_wire};
 ghost use Rattle.wire.specs.Frames.{coded, doubled, negotiation, frame, literal};

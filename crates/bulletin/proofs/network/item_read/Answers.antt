@@ -1,0 +1,10 @@
+use Rattle.bulletin.proofs.network.item_read.Goals as goal
+
+pub returns-in-Data : goal.returns-in-Data
+returns-in-Data c = rw c.in-Data.is (c.data_read.ensures.met _)
+
+pub returns-in-Negotiated : goal.returns-in-Negotiated
+returns-in-Negotiated c = rw c.in-Negotiated.is (c.negotiated.ensures.met _)
+
+pub returns-in-BodyEnd : goal.returns-in-BodyEnd
+returns-in-BodyEnd c = rw c.in-BodyEnd.is (c.body_read.ensures.met _)

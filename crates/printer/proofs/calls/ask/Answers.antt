@@ -1,0 +1,41 @@
+use mathlib.Core.Path.{sym, ◌∙◌}
+use Rattle.codes.specs.Answers.{guarded}
+use Rattle.negotiation.specs.Carried.{reply_bytes}
+use Rattle.printer.specs.Refinement.{view_printer}
+use Rattle.printer.specs.Network.{moved_with_reply}
+use Rattle.printer.specs.Calls.{ask_call}
+use Rattle.negotiation.proofs.Replies.{reply_long}
+use Rattle.printer.proofs.Limits.{move_fits}
+use Rattle.printer.proofs.Views.{sized_view, room_for}
+use Rattle.printer.proofs.Answering.{met_refused, met_done}
+use Rattle.printer.proofs.calls.ask.Goals as goal
+
+pub returns-then-no_room : goal.returns-then-no_room
+unfolding ask_call guarded
+returns-then-no_room c =
+    rw (sym c.no_room.ensures ∙ c.if-no_room.true, c.refused.ensures) met_refused
+
+pub moved_with_reply-step-requires : goal.moved_with_reply-step-requires
+moved_with_reply-step-requires c =
+    let whose = c.asked_whose-whose.result in
+    let moves = c.in-Moves in
+    let side = c.asked_side-side.result in
+    let a = c.args in
+    let both = room_for _ a.paper.now a.wire.now (sym c.no_room.ensures ∙ c.if-no_room.false)
+    (move_fits _ side moves.q (reply_bytes whose moves.reply a.option) (reply_long whose moves.reply a.option) (sized_view a.s)) in
+    record { room_for = both.0; room_for_2 = both.1 }
+
+pub returns-in-Refused : goal.returns-in-Refused
+unfolding ask_call guarded
+returns-in-Refused c =
+    rw (sym c.no_room.ensures ∙ c.if-no_room.false, ← c.asked_side-side.ensures, ← c.asked_enable-enable.ensures, sym c.asking_of-asking.ensures ∙ c.in-Refused.is, c.refused-in-Refused.ensures)
+    met_refused
+
+pub returns-in-Moves : goal.returns-in-Moves
+unfolding ask_call guarded
+returns-in-Moves c =
+    let whose = c.asked_whose-whose in
+    let moves = c.in-Moves in
+    let a = c.args in
+    rw (sym c.no_room.ensures ∙ c.if-no_room.false, ← c.asked_side-side.ensures, ← c.asked_enable-enable.ensures, sym c.asking_of-asking.ensures ∙ moves.is, ← whose.ensures, c.done.ensures.0)
+    (met_done {d = moved_with_reply (view_printer a.s) c.asked_side-side.result moves.q (reply_bytes whose.result moves.reply a.option)} c.moved_with_reply-step.ensures c.done.ensures.1)

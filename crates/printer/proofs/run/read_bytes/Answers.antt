@@ -1,0 +1,163 @@
+use mathlib.Core.Path.{◌≡◌, refl, sym, ◌∙◌}
+use mathlib.Core.Bool.{false}
+use Prim.Native.Nat.{ℕ, ◌≤◌, ◌<◌, ◌+◌, ◌-◌}
+use native.Mathlib.Omega.{arith}
+use lib.ListN.{take, drop, get_or, length-take, length}
+use Rattle.lists.specs.Buffers.{lent_as, untouched}
+use Rattle.lists.proofs.Parts.{rest_of}
+use Rattle.codes.specs.Answers.{no_room}
+use Rattle.reader.proofs.NetworkRun.{PlainAt}
+use Rattle.reader.proofs.RunLoop.{Stepped, begun, first_in, wire_in, stopped_full, stopped_over, byte_room, first_counted, wire_counted, turn, noted, stretch_inside, stretch_room, stretch_counted, turn_stretch}
+use Rattle.printer.specs.Network.{network_read}
+use Rattle.printer.proofs.PlainBytes.{data_within, data_plain}
+use Rattle.printer.proofs.Runs.{byte_fits, stepped, refines_run, lawful}
+use Rattle.printer.specs.Refinement.{view_printer, CleanPrinter}
+use Rattle.printer.proofs.run.read_bytes.Goals as goal
+
+pub loop-i-init : goal.loop-i-init
+loop-i-init c =
+    let a = c.args in
+    begun lawful view_printer CleanPrinter a.s a.bytes.now a.paper.now a.wire.now
+
+pub overflow_sub-left : goal.overflow_sub-left
+overflow_sub-left c = first_in c.loop-i.invariant
+
+pub overflow_sub-wire : goal.overflow_sub-wire
+overflow_sub-wire c = wire_in c.loop-i.invariant
+
+pub returns-then-no_room : goal.returns-then-no_room
+returns-then-no_room c =
+    rw c.stopped.ensures.0 (refines_run (stopped_full c.loop-i.invariant (sym c.no_room.ensures ∙ c.if-no_room.true)) c.stopped.ensures.1)
+
+pub slice_bounds-data_stretch-count : goal.slice_bounds-data_stretch-count
+slice_bounds-data_stretch-count c = omega (arith, c.reach-end.ensures)
+
+pub slice_bounds-data_stretch-start : goal.slice_bounds-data_stretch-start
+slice_bounds-data_stretch-start c = omega (arith, c.reach-end.ensures)
+
+pub slice_bounds-data_stretch-end : goal.slice_bounds-data_stretch-end
+slice_bounds-data_stretch-end c = omega (arith, c.reach-end.ensures, c.loop-i-test.true)
+
+pub overflow_add-next : goal.overflow_add-next
+overflow_add-next c =
+    let rest = drop c.loop-i.i c.args.bytes.now in
+    let room : let l = c.loop-i in no_room (length l.paper - l.p) (length l.wire - l.w) ≡ false = sym c.no_room.ensures ∙ c.if-no_room.false in
+    let short : c.data_stretch-n.result ≤ c.reach-end.result - c.loop-i.i = let l = c.loop-i in omega (arith, simp length-take at (data_within l.state (take (c.reach-end.result - l.i) rest) c.data_stretch-n.result c.data_stretch-n.ensures)) in
+    let plain : let l = c.loop-i in PlainAt lawful (view_printer l.state) (take c.data_stretch-n.result (take (c.reach-end.result - l.i) rest)) = let l = c.loop-i in data_plain l.state (take (c.reach-end.result - l.i) rest) c.data_stretch-n.result c.data_stretch-n.ensures in
+    let inside : c.loop-i.i + c.data_stretch-n.result ≤ length c.args.bytes.now = stretch_inside c.loop-i.invariant room c.reach-end.result c.data_stretch-n.result c.reach-end.ensures short plain in
+    omega (arith, inside, c.well_formed.1.0.0)
+
+pub slice_bounds-put_bytes-end : goal.slice_bounds-put_bytes-end
+slice_bounds-put_bytes-end c =
+    let rest = drop c.loop-i.i c.args.bytes.now in
+    let room : let l = c.loop-i in no_room (length l.paper - l.p) (length l.wire - l.w) ≡ false = sym c.no_room.ensures ∙ c.if-no_room.false in
+    let short : c.data_stretch-n.result ≤ c.reach-end.result - c.loop-i.i = let l = c.loop-i in omega (arith, simp length-take at (data_within l.state (take (c.reach-end.result - l.i) rest) c.data_stretch-n.result c.data_stretch-n.ensures)) in
+    let plain : let l = c.loop-i in PlainAt lawful (view_printer l.state) (take c.data_stretch-n.result (take (c.reach-end.result - l.i) rest)) = let l = c.loop-i in data_plain l.state (take (c.reach-end.result - l.i) rest) c.data_stretch-n.result c.data_stretch-n.ensures in
+    let inside : c.loop-i.i + c.data_stretch-n.result ≤ length c.args.bytes.now = stretch_inside c.loop-i.invariant room c.reach-end.result c.data_stretch-n.result c.reach-end.ensures short plain in
+    omega (arith, inside)
+
+pub slice_bounds-put_bytes-count-then-n-gt0 : goal.slice_bounds-put_bytes-count-then-n-gt0
+slice_bounds-put_bytes-count-then-n-gt0 c = first_in c.loop-i.invariant
+
+pub slice_bounds-put_bytes-start-then-n-gt0 : goal.slice_bounds-put_bytes-start-then-n-gt0
+slice_bounds-put_bytes-start-then-n-gt0 c = first_in c.loop-i.invariant
+
+pub put_bytes-copied-requires : goal.put_bytes-copied-requires
+put_bytes-copied-requires c =
+    let rest = drop c.loop-i.i c.args.bytes.now in
+    let room : let l = c.loop-i in no_room (length l.paper - l.p) (length l.wire - l.w) ≡ false = sym c.no_room.ensures ∙ c.if-no_room.false in
+    let short : c.data_stretch-n.result ≤ c.reach-end.result - c.loop-i.i = let l = c.loop-i in omega (arith, simp length-take at (data_within l.state (take (c.reach-end.result - l.i) rest) c.data_stretch-n.result c.data_stretch-n.ensures)) in
+    let plain : let l = c.loop-i in PlainAt lawful (view_printer l.state) (take c.data_stretch-n.result (take (c.reach-end.result - l.i) rest)) = let l = c.loop-i in data_plain l.state (take (c.reach-end.result - l.i) rest) c.data_stretch-n.result c.data_stretch-n.ensures in
+    stretch_room c.loop-i.invariant room c.reach-end.result c.data_stretch-n.result c.reach-end.ensures short (plain)
+
+pub overflow_add-p : goal.overflow_add-p
+overflow_add-p c =
+    let rest = drop c.loop-i.i c.args.bytes.now in
+    let room : let l = c.loop-i in no_room (length l.paper - l.p) (length l.wire - l.w) ≡ false = sym c.no_room.ensures ∙ c.if-no_room.false in
+    let short : c.data_stretch-n.result ≤ c.reach-end.result - c.loop-i.i = let l = c.loop-i in omega (arith, simp length-take at (data_within l.state (take (c.reach-end.result - l.i) rest) c.data_stretch-n.result c.data_stretch-n.ensures)) in
+    let plain : let l = c.loop-i in PlainAt lawful (view_printer l.state) (take c.data_stretch-n.result (take (c.reach-end.result - l.i) rest)) = let l = c.loop-i in data_plain l.state (take (c.reach-end.result - l.i) rest) c.data_stretch-n.result c.data_stretch-n.ensures in
+    omega (arith, stretch_counted c.loop-i.invariant room c.reach-end.result c.data_stretch-n.result c.reach-end.ensures short plain c.put_bytes-copied.ensures, c.well_formed.1.1.0.0)
+
+pub loop-i-smaller-then-n-gt0 : goal.loop-i-smaller-then-n-gt0
+loop-i-smaller-then-n-gt0 c =
+    let rest = drop c.loop-i.i c.args.bytes.now in
+    let room : let l = c.loop-i in no_room (length l.paper - l.p) (length l.wire - l.w) ≡ false = sym c.no_room.ensures ∙ c.if-no_room.false in
+    let ahead : c.loop-i.i < length c.args.bytes.now = c.loop-i-test.true in
+    let short : c.data_stretch-n.result ≤ c.reach-end.result - c.loop-i.i = let l = c.loop-i in omega (arith, simp length-take at (data_within l.state (take (c.reach-end.result - l.i) rest) c.data_stretch-n.result c.data_stretch-n.ensures)) in
+    let plain : let l = c.loop-i in PlainAt lawful (view_printer l.state) (take c.data_stretch-n.result (take (c.reach-end.result - l.i) rest)) = let l = c.loop-i in data_plain l.state (take (c.reach-end.result - l.i) rest) c.data_stretch-n.result c.data_stretch-n.ensures in
+    let inside : c.loop-i.i + c.data_stretch-n.result ≤ length c.args.bytes.now = stretch_inside c.loop-i.invariant room c.reach-end.result c.data_stretch-n.result c.reach-end.ensures short plain in
+    omega (arith, inside, ahead, c.if-n-gt0.true)
+
+pub loop-i-preserved-then-n-gt0 : goal.loop-i-preserved-then-n-gt0
+loop-i-preserved-then-n-gt0 c =
+    let rest = drop c.loop-i.i c.args.bytes.now in
+    let room : let l = c.loop-i in no_room (length l.paper - l.p) (length l.wire - l.w) ≡ false = sym c.no_room.ensures ∙ c.if-no_room.false in
+    let short : c.data_stretch-n.result ≤ c.reach-end.result - c.loop-i.i = let l = c.loop-i in omega (arith, simp length-take at (data_within l.state (take (c.reach-end.result - l.i) rest) c.data_stretch-n.result c.data_stretch-n.ensures)) in
+    let plain : let l = c.loop-i in PlainAt lawful (view_printer l.state) (take c.data_stretch-n.result (take (c.reach-end.result - l.i) rest)) = let l = c.loop-i in data_plain l.state (take (c.reach-end.result - l.i) rest) c.data_stretch-n.result c.data_stretch-n.ensures in
+    turn_stretch c.loop-i.invariant room c.reach-end.result c.data_stretch-n.result c.reach-end.ensures short plain c.put_bytes-copied.ensures
+
+pub slice_bounds-network_read-count : goal.slice_bounds-network_read-count
+slice_bounds-network_read-count c = first_in c.loop-i.invariant
+
+pub slice_bounds-network_read-start : goal.slice_bounds-network_read-start
+slice_bounds-network_read-start c = first_in c.loop-i.invariant
+
+pub slice_bounds-network_read-count-in-loop-i : goal.slice_bounds-network_read-count-in-loop-i
+slice_bounds-network_read-count-in-loop-i c = wire_in c.loop-i.invariant
+
+pub slice_bounds-network_read-start-in-loop-i : goal.slice_bounds-network_read-start-in-loop-i
+slice_bounds-network_read-start-in-loop-i c = wire_in c.loop-i.invariant
+
+pub network_read-step-requires : goal.network_read-step-requires
+network_read-step-requires c =
+    let room : let l = c.loop-i in no_room (length l.paper - l.p) (length l.wire - l.w) ≡ false = sym c.no_room.ensures ∙ c.if-no_room.false in
+    let byte : ℕ = get_or c.args.bytes.now c.loop-i.i 0 in
+    let both = byte_room c.loop-i.invariant room byte (byte_fits c.loop-i.state byte) in
+    record { room_for = both.0; room_for_2 = both.1 }
+
+pub overflow_add-p-in-loop-i : goal.overflow_add-p-in-loop-i
+overflow_add-p-in-loop-i c =
+    let room : let l = c.loop-i in no_room (length l.paper - l.p) (length l.wire - l.w) ≡ false = sym c.no_room.ensures ∙ c.if-no_room.false in
+    let ahead : c.loop-i.i < length c.args.bytes.now = c.loop-i-test.true in
+    let byte : ℕ = get_or c.args.bytes.now c.loop-i.i 0 in
+    let was_read : let l = c.loop-i in let r = c.network_read-step.result in Stepped lawful view_printer CleanPrinter (network_read (view_printer l.state) byte) l.state r.state r.note (lent_as (rest_of (untouched l.paper) l.p) c.network_read-step.new.paper) (lent_as (rest_of (untouched l.wire) l.w) c.network_read-step.new.wire) r.paper r.wire = stepped c.network_read-step.ensures in
+    omega (arith, first_counted c.loop-i.invariant room byte (byte_fits c.loop-i.state byte) ahead refl was_read, c.well_formed.1.1.0.0)
+
+pub overflow_add-w : goal.overflow_add-w
+overflow_add-w c =
+    let room : let l = c.loop-i in no_room (length l.paper - l.p) (length l.wire - l.w) ≡ false = sym c.no_room.ensures ∙ c.if-no_room.false in
+    let ahead : c.loop-i.i < length c.args.bytes.now = c.loop-i-test.true in
+    let byte : ℕ = get_or c.args.bytes.now c.loop-i.i 0 in
+    let was_read : let l = c.loop-i in let r = c.network_read-step.result in Stepped lawful view_printer CleanPrinter (network_read (view_printer l.state) byte) l.state r.state r.note (lent_as (rest_of (untouched l.paper) l.p) c.network_read-step.new.paper) (lent_as (rest_of (untouched l.wire) l.w) c.network_read-step.new.wire) r.paper r.wire = stepped c.network_read-step.ensures in
+    omega (arith, wire_counted c.loop-i.invariant room byte (byte_fits c.loop-i.state byte) ahead refl was_read, c.well_formed.1.1.1.0.0)
+
+pub overflow_add-i : goal.overflow_add-i
+overflow_add-i c =
+    let ahead : c.loop-i.i < length c.args.bytes.now = c.loop-i-test.true in
+    omega (arith, ahead, c.well_formed.1.0.0)
+
+pub returns-then-not-is_clear : goal.returns-then-not-is_clear
+returns-then-not-is_clear c =
+    let room : let l = c.loop-i in no_room (length l.paper - l.p) (length l.wire - l.w) ≡ false = sym c.no_room.ensures ∙ c.if-no_room.false in
+    let ahead : c.loop-i.i < length c.args.bytes.now = c.loop-i-test.true in
+    let byte : ℕ = get_or c.args.bytes.now c.loop-i.i 0 in
+    let was_read : let l = c.loop-i in let r = c.network_read-step.result in Stepped lawful view_printer CleanPrinter (network_read (view_printer l.state) byte) l.state r.state r.note (lent_as (rest_of (untouched l.paper) l.p) c.network_read-step.new.paper) (lent_as (rest_of (untouched l.wire) l.w) c.network_read-step.new.wire) r.paper r.wire = stepped c.network_read-step.ensures in
+    let given = sym c.is_clear.ensures ∙ c.if-not-is_clear.true in
+    rw c.stopped-then-not-is_clear.ensures.0 (refines_run (noted c.loop-i.invariant room byte (byte_fits c.loop-i.state byte) ahead refl was_read given) c.stopped-then-not-is_clear.ensures.1)
+
+pub loop-i-smaller : goal.loop-i-smaller
+loop-i-smaller c =
+    let ahead : c.loop-i.i < length c.args.bytes.now = c.loop-i-test.true in
+    omega (arith, ahead)
+
+pub loop-i-preserved : goal.loop-i-preserved
+loop-i-preserved c =
+    let room : let l = c.loop-i in no_room (length l.paper - l.p) (length l.wire - l.w) ≡ false = sym c.no_room.ensures ∙ c.if-no_room.false in
+    let ahead : c.loop-i.i < length c.args.bytes.now = c.loop-i-test.true in
+    let byte : ℕ = get_or c.args.bytes.now c.loop-i.i 0 in
+    let was_read : let l = c.loop-i in let r = c.network_read-step.result in Stepped lawful view_printer CleanPrinter (network_read (view_printer l.state) byte) l.state r.state r.note (lent_as (rest_of (untouched l.paper) l.p) c.network_read-step.new.paper) (lent_as (rest_of (untouched l.wire) l.w) c.network_read-step.new.wire) r.paper r.wire = stepped c.network_read-step.ensures in
+    let clear = sym c.is_clear.ensures ∙ c.if-not-is_clear.false in
+    turn c.loop-i.invariant room byte (byte_fits c.loop-i.state byte) ahead refl was_read clear
+
+pub returns : goal.returns
+returns c = rw c.stopped-2.ensures.0 (refines_run (stopped_over c.loop-i.invariant c.loop-i-test.false) c.stopped-2.ensures.1)

@@ -1,0 +1,12 @@
+use mathlib.Core.Path.{◌≡◌}
+use mathlib.Core.Bool.{false}
+use Prim.Native.Nat.{◌≤◌, ◌+◌, ◌-◌}
+use Rattle.lists.specs.Fronts.{Pass}
+use Rattle.received_macros.specs.Refinement.{is_unmarked_text}
+use Rattle.received_macros.proofs.fronts.mark_in_block.Given as goal
+
+abbrev pub invariant-loop-k : goal.invariant-loop-k
+invariant-loop-k l = (l.k ≤ 32) × (l.found ≡ false → Pass (is_unmarked_text l.marks) l.bytes l.at (l.at + l.k))
+
+abbrev pub decreases-loop-k : goal.decreases-loop-k
+decreases-loop-k l = 32 - l.k

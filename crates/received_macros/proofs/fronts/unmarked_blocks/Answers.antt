@@ -1,0 +1,30 @@
+use Prim.Native.Nat.{◌-◌}
+use native.Mathlib.Omega.{arith}
+use Rattle.lists.proofs.Fronts.{scan_begun, scan_further}
+use Rattle.received_macros.proofs.fronts.unmarked_blocks.Goals as goal
+
+pub loop-n-init : goal.loop-n-init
+loop-n-init c = scan_begun
+
+pub overflow_sub-bytes : goal.overflow_sub-bytes
+overflow_sub-bytes c = c.loop-n.invariant.within
+
+pub mark_in_block-requires : goal.mark_in_block-requires
+mark_in_block-requires c = omega (arith, c.loop-n.invariant.within, c.loop-n-test.true)
+
+pub returns-then-mark_in_block : goal.returns-then-mark_in_block
+returns-then-mark_in_block c = c.loop-n.invariant
+
+pub overflow_add-n : goal.overflow_add-n
+overflow_add-n c = omega (arith, c.loop-n-test.true, c.well_formed.1.0.0)
+
+pub loop-n-smaller : goal.loop-n-smaller
+loop-n-smaller c = omega (arith, c.loop-n-test.true)
+
+pub loop-n-preserved : goal.loop-n-preserved
+loop-n-preserved c =
+    let loop = c.loop-n in
+    scan_further loop.invariant (omega (arith, loop.invariant.within, c.loop-n-test.true)) (c.mark_in_block.ensures c.if-mark_in_block.false)
+
+pub returns : goal.returns
+returns c = c.loop-n.invariant

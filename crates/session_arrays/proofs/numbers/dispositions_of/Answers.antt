@@ -1,0 +1,4 @@
+use Rattle.session_arrays.proofs.numbers.dispositions_of.Goals as goal
+
+pub returns : goal.returns
+returns c = cc
