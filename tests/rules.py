@@ -18,9 +18,10 @@ PART = 250  # terms to a definition: a long list is written as a sum of short on
 MOST = 1024  # bytes to a line
 SHORT = 300  # bytes of a tape that computes quickly
 
-FUNCTION = re.compile(r'^(#\[([^][]|\[[^]]*\])*\]\n)*(pub )?(extern "C" )?fn .*?^\}\n', re.M | re.S)
+FUNCTION = re.compile(r'^(#\[([^][]|\[[^]]*\])*\]\n)*((pub )?(extern "C" )?fn|impl)\b.*?^\}\n', re.M | re.S)  # or a block of them
+TRAIT = re.compile(r"^((?:pub )?trait \w+[^{\n]*)\{.*?^\}\n", re.M | re.S)  # its items are functions, and terms about them
 GHOST = re.compile(r"^ghost use [^;]*;\n", re.M)
-PASSED_ON = re.compile(r"^(pub use \w+|use (?:crate|super)(?:::\w+)*)::(\w+|\{[^}]*\});\n", re.M)
+PASSED_ON = re.compile(r"^((?:pub )?use \w+(?:::\w+)*)::(\w+|\{[^}]*\});\n", re.M)
 ABOVE = re.compile(r"^use Rattle\.(?!lists\.|%s\.)\w+\.proofs\." % CLAIMS, re.M)  # a proof about other crates' proofs
 HERE = re.compile(r"^\./(?=(specs|proofs)/)", re.M)  # how the check of a crate begins the name of a file of the crate's own
 ERROR = re.compile(r"^crates/(\w+)/(specs|proofs)/(\S+?)\.antt:\d+:\d+: error: `([^`]+)`(.*(?:\n  .*)*)", re.M)
@@ -402,23 +403,31 @@ def without_functions(text):
     def types(m):
         names = [n for n in re.findall(r"\w+", m[2]) if not n[0].islower()]
         return "%s::{%s};\n" % (m[1], ", ".join(names)) if names else ""
-    return PASSED_ON.sub(types, GHOST.sub("", FUNCTION.sub("", text)))
+    return PASSED_ON.sub(types, GHOST.sub("", TRAIT.sub(r"\1{}\n", FUNCTION.sub("", text))))
 
 
 def alone(place, kept=()):
-    """The rules without functions and proofs, but for the proofs of the kept crates."""
+    """The rules without functions and proofs, but for the laws of the kept crates."""
     copied(place)
     for name in crates():
         crate = os.path.join(place, "crates", name)
-        if name not in kept:
-            shutil.rmtree(os.path.join(crate, "proofs"), ignore_errors=True)
+        proofs = os.path.join(crate, "proofs")
+        for folder, _, files in list(os.walk(proofs)):
+            if name not in kept or {"Answers.antt", "Invariants.antt"} & set(files):  # of a function
+                shutil.rmtree(folder, ignore_errors=True)
         for file in os.listdir(os.path.join(crate, "src")):
             rewritten(os.path.join(crate, "src", file), without_functions)
-    proofs = os.path.join(place, "crates", CLAIMS, "proofs")
-    for file in os.listdir(proofs) if os.path.isdir(proofs) else []:
-        if ABOVE.search(open(os.path.join(proofs, file)).read()):
-            os.remove(os.path.join(proofs, file))
-            rewritten(os.path.join(proofs, "Lib.antt"), lambda text: text.replace("pub mod %s\n" % file[: -len(".antt")], ""))
+        without_proved(os.path.join(crate, "specs"))
+    without_proved(os.path.join(place, "crates", CLAIMS, "proofs"))
+
+
+def without_proved(folder):
+    """Takes away the files that cite proofs which are not there: claims about proofs, and laws that a type is given with theirs."""
+    for path in glob.glob(os.path.join(folder, "*.antt")):
+        if ABOVE.search(open(path).read()):
+            file = os.path.basename(path)
+            os.remove(path)
+            rewritten(os.path.join(folder, "Lib.antt"), lambda text: text.replace("pub mod %s\n" % file[: -len(".antt")], ""))
 
 
 def with_claims(place, lists, alone=False):

@@ -1,4 +1,4 @@
-// The parsed bodies of RCTE, BM and the options about output disposition. One case of each is for a body of the wrong shape.
+// The parsed bodies of RCTE, BM and the options about output disposition: None is a body of the wrong shape.
 #![tactic(auto)]
 
 ghost use Rattle.std.specs.Prelude.{◌≡◌, true, cond, ◌+◌, ◌<◌, length};
@@ -27,23 +27,12 @@ pub struct Action {
     pub skiptext: bool,
 }
 
-// A class pair of a command, read as one number with its first byte high.
-#[derive(Clone, Copy)]
-pub enum Classes {
-    Same,
-    New(u16),
-}
-
+// A class pair is one number, its first byte high: those of the break characters and of the transmission characters, where
+// the command sets them.
 #[derive(Clone, Copy)]
 pub enum RcteCommand {
     Repeat,
-    Perform(Action, Classes, Classes),
-}
-
-#[derive(Clone, Copy)]
-pub enum RcteBody {
-    Readable(RcteCommand),
-    Unreadable,
+    Perform(Action, Option<u16>, Option<u16>),
 }
 
 // What the printer end takes of BM; a DEFINE's count and string stay in the body, from its fourth byte on.
@@ -53,31 +42,12 @@ pub enum MacroCommand {
     Literal(u8),
 }
 
-#[derive(Clone, Copy)]
-pub enum MacroBody {
-    Readable(MacroCommand),
-    Unreadable,
-}
-
 // What the bulletin end takes of BM.
 #[derive(Clone, Copy)]
 pub enum MacroReply {
     Accept(u8),
     Refuse(u8),
     PleaseCancel(u8),
-}
-
-#[derive(Clone, Copy)]
-pub enum ReplyBody {
-    Readable(MacroReply),
-    Unreadable,
-}
-
-// A value that is suggested.
-#[derive(Clone, Copy)]
-pub enum ValueBody {
-    Readable(u8),
-    Unreadable,
 }
 
 fn has_bit(cmd: u8, weight: u8) -> bool
@@ -119,26 +89,21 @@ fn pair_length(set: bool) -> usize
 fn rcte_length(cmd: u8) -> usize
     ensures { result ≡ rcte_length cmd }
 {
-    let breaks = pair_length(sets_breaks(cmd));
-    let sends = pair_length(sets_sends(cmd));
-    2 + breaks + sends
+    2 + pair_length(sets_breaks(cmd)) + pair_length(sets_sends(cmd))
 }
 
 fn pair_at(body: &[u8], at: usize) -> u16
     requires { at + 1 < length body.now }
     ensures { result ≡ pair_at body.now at }
 {
-    256 * (body[at] as u16) + (body[at + 1] as u16)
+    u16::from_be_bytes([body[at], body[at + 1]])
 }
 
-fn classes_at(set: bool, body: &[u8], at: usize) -> Classes
+fn classes_at(set: bool, body: &[u8], at: usize) -> Option<u16>
     requires { set ≡ true → at + 1 < length body.now }
     ensures { result ≡ classes_at set body.now at }
 {
-    if set {
-        return Classes::New(pair_at(body, at));
-    }
-    Classes::Same
+    set.then(|| pair_at(body, at))
 }
 
 // An odd command with a body of its length.
@@ -146,83 +111,48 @@ fn perform(cmd: u8, body: &[u8]) -> RcteCommand
     requires { length body.now ≡ rcte_length cmd }
     ensures { result ≡ performed cmd body.now }
 {
-    let action = action_of(cmd);
     let set_breaks = sets_breaks(cmd);
     let breaks = classes_at(set_breaks, body, 2);
-    let set_sends = sets_sends(cmd);
-    let sends = classes_at(set_sends, body, 2 + pair_length(set_breaks));
-    RcteCommand::Perform(action, breaks, sends)
+    let sends = classes_at(sets_sends(cmd), body, 2 + pair_length(set_breaks));
+    RcteCommand::Perform(action_of(cmd), breaks, sends)
 }
 
-pub fn rcte_body(body: &[u8]) -> RcteBody
+#[tactic(auto, unfolding(crate::specs::RcteBodies::rcte_body))]
+pub fn rcte_body(body: &[u8]) -> Option<RcteCommand>
     ensures { result ≡ rcte_body body.now }
 {
-    let n = body.len();
-    if n < 2 {
-        return RcteBody::Unreadable;
-    }
-    let cmd = body[1];
+    let [_, cmd, rest @ ..] = body else {
+        return None;
+    };
     if cmd % 2 == 0 {
-        if n == 2 {
-            return RcteBody::Readable(RcteCommand::Repeat);
-        }
-        return RcteBody::Unreadable;
+        return rest.is_empty().then_some(RcteCommand::Repeat);
     }
-    if cmd > ALL_BITS {
-        return RcteBody::Unreadable;
+    if *cmd > ALL_BITS || body.len() != rcte_length(*cmd) {
+        return None;
     }
-    if n != rcte_length(cmd) {
-        return RcteBody::Unreadable;
-    }
-    RcteBody::Readable(perform(cmd, body))
+    Some(perform(*cmd, body))
 }
 
 #[tactic(auto, unfolding(crate::specs::MacroBodies::macro_body))]
-pub fn macro_body(body: &[u8]) -> MacroBody
+pub fn macro_body(body: &[u8]) -> Option<MacroCommand>
     ensures { result ≡ macro_body body.now }
 {
-    let n = body.len();
-    if n < 3 {
-        return MacroBody::Unreadable;
-    }
-    let subcommand = body[1];
-    let x = body[2];
-    match subcommand {
-        DEFINE => MacroBody::Readable(MacroCommand::Define(x)),
-        LITERAL => {
-            if n != 3 || x == IAC {
-                return MacroBody::Unreadable;
-            }
-            MacroBody::Readable(MacroCommand::Literal(x))
-        }
-        _ => MacroBody::Unreadable,
+    match body {
+        [_, DEFINE, x, ..] => Some(MacroCommand::Define(*x)),
+        [_, LITERAL, x] if *x != IAC => Some(MacroCommand::Literal(*x)),
+        _ => None,
     }
 }
 
-pub fn reply_body(body: &[u8]) -> ReplyBody
+#[tactic(auto, unfolding(crate::specs::MacroBodies::reply_body))]
+pub fn reply_body(body: &[u8]) -> Option<MacroReply>
     ensures { result ≡ reply_body body.now }
 {
-    let n = body.len();
-    if n < 3 {
-        return ReplyBody::Unreadable;
-    }
-    let subcommand = body[1];
-    let x = body[2];
-    match subcommand {
-        ACCEPT => reply_of(n == 3, MacroReply::Accept(x)),
-        REFUSE => reply_of(n == 4, MacroReply::Refuse(x)),
-        PLEASE_CANCEL => reply_of(n == 4, MacroReply::PleaseCancel(x)),
-        _ => ReplyBody::Unreadable,
-    }
-}
-
-fn reply_of(shaped: bool, reply: MacroReply) -> ReplyBody
-    ensures { result ≡ cond shaped (ReplyBody.Readable reply) ReplyBody.Unreadable }
-{
-    if shaped {
-        ReplyBody::Readable(reply)
-    } else {
-        ReplyBody::Unreadable
+    match body {
+        [_, ACCEPT, x] => Some(MacroReply::Accept(*x)),
+        [_, REFUSE, x, _] => Some(MacroReply::Refuse(*x)),
+        [_, PLEASE_CANCEL, x, _] => Some(MacroReply::PleaseCancel(*x)),
+        _ => None,
     }
 }
 
@@ -233,23 +163,16 @@ pub fn bad_value(d: Disposition, v: u8) -> bool
     match d {
         Disposition::Naocrd => v == 251 || v == 253,
         Disposition::Naolfd => v == 251,
-        Disposition::Naoffd => false,
-        Disposition::Naohtd => false,
+        Disposition::Naoffd | Disposition::Naohtd => false,
     }
 }
 
-pub fn value_body(d: Disposition, who: u8, body: &[u8]) -> ValueBody
+#[tactic(auto, unfolding(crate::specs::ValueBodies::value_body))]
+pub fn value_body(d: Disposition, who: u8, body: &[u8]) -> Option<u8>
     ensures { result ≡ value_body d who body.now }
 {
-    if body.len() != 3 {
-        return ValueBody::Unreadable;
+    match body {
+        [_, speaker, v] if *speaker == who && !bad_value(d, *v) => Some(*v),
+        _ => None,
     }
-    if body[1] != who {
-        return ValueBody::Unreadable;
-    }
-    let v = body[2];
-    if bad_value(d, v) {
-        return ValueBody::Unreadable;
-    }
-    ValueBody::Readable(v)
 }

@@ -1,13 +1,13 @@
 -- How an answer of the code meets the rule's.
 use mathlib.Core.Path.{◌≡◌, refl}
-use mathlib.Core.Bool.{Bool, true, false, not}
+use Rattle.std.specs.Prelude.{Result, Ok, Err}
 use mathlib.Core.List.{List}
 use Prim.Native.Nat.{ℕ}
 use Rattle.lists.specs.Buffers.{Lent, untouched}
 use Rattle.lists.proofs.Starts.{wrote_none}
-use Rattle.codes.specs.Answers.{Guard, guarded, is_done, refusal_of}
+use Rattle.codes.specs.Answers.{Guard, guarded, allowed}
 use Rattle.codes.specs.declared.Code.{Code}
-use Rattle.codes.proofs.Guards.{Refusals, guarded_refused, guarded_done, test_stops, test_passes}
+use Rattle.codes.proofs.Allowed.{guarded_by}
 use Rattle.bulletin.specs.declared.Bulletin.{Bulletin}
 use Rattle.bulletin.specs.declared.Step.{Step}
 use Rattle.bulletin.specs.declared.Answer.{Answer}
@@ -48,11 +48,11 @@ pub done_on_wire : {d : Effect} {b : Bulletin} {wire : Lent} {r t : Step} → r 
     → RefinesOutcomeOnWire (done d) b wire (answered r)
 done_on_wire e m w = record { met = λ host. met_done (rw e (m.met host)) w }
 
--- an answer behind its refusals: the code c of the first that holds, or what the call does; r is the code's test which of the two
-module _ (gs : List Guard) (a : CallEffect) {b : Bulletin} {c : Code} {r : Bool} (first : c ≡ refusal_of gs) (test : r ≡ is_done c) where
-  pub stopped_on_wire : {wire : List ℕ} → not r ≡ true → RefinesOutcomeOnWire (guarded gs (refused (view_bulletin b)) a) b (untouched wire) (refusal b c)
-  stopped_on_wire n = rw (guarded_refused (refused (view_bulletin b)) a gs (test_stops gs first test n), ← first) refused_on_wire
+-- an answer behind its refusals: r is the code's finding, the code of the first that holds, or that the call may go on
+module _ (gs : List Guard) (a : CallEffect) {b : Bulletin} {r : Result (Unit {0}) Code} (first : r ≡ allowed gs) where
+  pub stopped_on_wire : {wire : List ℕ} {c : Code} → r ≡ Err c → RefinesOutcomeOnWire (guarded gs (refused (view_bulletin b)) a) b (untouched wire) (refusal b c)
+  stopped_on_wire e = rw (guarded_by (refused (view_bulletin b)) a gs, ← first, e) refused_on_wire
 
-  pub passed_on_wire : {wire : Lent} {x : Answer} → Refusals gs → not r ≡ false → RefinesOutcomeOnWire a b wire x
+  pub passed_on_wire : {wire : Lent} {x : Answer} {u : Unit {0}} → r ≡ Ok u → RefinesOutcomeOnWire a b wire x
       → RefinesOutcomeOnWire (guarded gs (refused (view_bulletin b)) a) b wire x
-  passed_on_wire k n m = rw (guarded_done (refused (view_bulletin b)) a gs k (test_passes gs first test n)) m
+  passed_on_wire e m = rw (guarded_by (refused (view_bulletin b)) a gs, ← first, e) m

@@ -5,8 +5,7 @@ use Rattle.negotiation.specs.declared.End.{End}
 use Rattle.reader.specs.declared.Item.{Item}
 use Rattle.reader.specs.declared.Item.TheVariants.{BodyEnd}
 use Rattle.reader.specs.Reading.{ReaderState, idle, read}
-use Rattle.subnegotiation.specs.declared.Checked.{Checked}
-use Rattle.subnegotiation.specs.Checks.{checked}
+use Rattle.subnegotiation.specs.Checks.{Checked, checked}
 use Rattle.bulletin.specs.State.{BulletinState, with_reader}
 use Rattle.bulletin.specs.Network.{body_handled, body_read, item_read, network_read}
 

@@ -5,7 +5,7 @@ use Rattle.keys.specs.declared.Key.{Key}
 use Rattle.keys.specs.declared.Key.TheVariants.{Char, Line, Command}
 use Rattle.keys.specs.Keys.{is_command, key_wire}
 use Rattle.sent_macros.specs.Sending.{Definitions, all_data_bytes}
-use Rattle.disposition.specs.declared.Handlings.{Handlings}
+use Rattle.disposition.specs.ByOption.{Handlings}
 use Rattle.disposition.specs.ItemData.{item_data}
 use Rattle.bulletin.specs.Calls.{item_bytes}
 

@@ -10,8 +10,7 @@ use Rattle.lists.proofs.Fronts.{chosen_within, chosen_passes}
 use Rattle.codes.specs.Telnet.{not_iac}
 use Rattle.reader.specs.Reading.{byte_by, is_between, is_data}
 use Rattle.reader.proofs.DataBytes.{read_data}
-use Rattle.disposition.specs.declared.Waits.{Waits}
-use Rattle.disposition.specs.ByOption.{is_waiting}
+use Rattle.disposition.specs.ByOption.{Waits, is_waiting}
 use Rattle.disposition.proofs.Waiting.{none_waits}
 use Rattle.bulletin.specs.State.{BulletinState, with_reader, with_waits}
 use Rattle.bulletin.specs.Network.{data_read, item_read, network_read}

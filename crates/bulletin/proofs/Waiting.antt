@@ -12,12 +12,13 @@ use Rattle.negotiation.specs.declared.OptionState.{OptionState}
 use Rattle.negotiation.specs.declared.Side.TheVariants.{Disposes}
 use Rattle.negotiation.specs.declared.Sides.{Sides}
 use Rattle.negotiation.specs.Table.{is_yes}
-use Rattle.negotiation.specs.Carried.{moved, each_state, disposition_state, disposition_in_force}
+use Rattle.codes.specs.Dispositions.{entry_of}
+use Rattle.negotiation.specs.Carried.{moved, disposition_in_force}
 use Rattle.reader.specs.Reading.{ReaderState}
 use Rattle.sent_macros.specs.Sending.{Definitions}
 use Rattle.issues.specs.declared.Issues.{Issues}
 use Rattle.disposition.specs.declared.Values.{Values}
-use Rattle.disposition.specs.ByOption.{unspoken, each_values, each_wait, values_of, with_values_of, wait_of, with_wait_of}
+use Rattle.disposition.specs.ByOption.{unspoken, values_of, with_values_of, wait_of, with_wait_of}
 use Rattle.disposition.specs.Handled.{handling, handling_while, handling_in}
 use Rattle.disposition.specs.ItemData.{awaits}
 use Rattle.bulletin.specs.State.{BulletinState, with_values, Effect}
@@ -49,7 +50,7 @@ not_waiting false v e = refl
 
 -- option d has the values v now; the states of the others are as they were, and that of d is in force if its wait lasts
 module _ (s : BulletinState) (x : Sides) (d : Disposition) (v : Values)
-    (others : (e : Disposition) → (d ≡ e → ⊥) → disposition_state x.dispositions e ≡ disposition_state s.sides.dispositions e)
+    (others : (e : Disposition) → (d ≡ e → ⊥) → entry_of x.dispositions e ≡ entry_of s.sides.dispositions e)
     (on : WaitsSo s → wait_of s.waits d ≡ true → awaits (handling v) ≡ true → disposition_in_force x d ≡ true) where
   abbrev lasts : Bool
   lasts = wait_of s.waits d && awaits (handling v)
@@ -58,10 +59,10 @@ module _ (s : BulletinState) (x : Sides) (d : Disposition) (v : Values)
   after r = record { sides = x; reader = r; table = s.table; values = with_values_of s.values d v; waits = with_wait_of s.waits d lasts; issues = s.issues }
 
   own_wait : wait_of (with_wait_of s.waits d lasts) d ≡ lasts
-  own_wait = entry_same (each_wait s.waits) lasts d
+  own_wait = entry_same s.waits lasts d
 
   own_outcome : handling_in x (with_values_of s.values d v) d ≡ handling_while (disposition_in_force x d) v
-  own_outcome = ap (λ (y : Values). handling_while (disposition_in_force x d) y) (entry_same (each_values s.values) v d)
+  own_outcome = ap (λ (y : Values). handling_while (disposition_in_force x d) y) (entry_same s.values v d)
 
   own_so : WaitsSo s → wait_of (with_wait_of s.waits d lasts) d ≡ true → awaits (handling_in x (with_values_of s.values d v) d) ≡ true
   own_so h w =
@@ -78,11 +79,11 @@ module _ (s : BulletinState) (x : Sides) (d : Disposition) (v : Values)
 
   module _ (e : Disposition) (other : d ≡ e → ⊥) where
     other_wait : wait_of (with_wait_of s.waits d lasts) e ≡ wait_of s.waits e
-    other_wait = entry_other (each_wait s.waits) lasts d e other
+    other_wait = entry_other s.waits lasts d e other
 
     other_outcome : handling_in x (with_values_of s.values d v) e ≡ handling_in s.sides s.values e
     other_outcome =
-        ap (λ (y : Values). handling_while (disposition_in_force x e) y) (entry_other (each_values s.values) v d e other)
+        ap (λ (y : Values). handling_while (disposition_in_force x e) y) (entry_other s.values v d e other)
         ∙ ap (λ (q : OptionState). handling_while (is_yes q) (values_of s.values e)) (others e other)
 
   abbrev Still : Disposition → Type 0
@@ -122,8 +123,8 @@ pub disposition_moved : (s : BulletinState) (d : Disposition) (q : OptionState) 
     → Rightly s (record { note = n; host = []; wire = wire; state = side_state s (Disposes d) q })
 disposition_moved s d q =
     valued s (moved s.sides (Disposes d) q) d (cond (is_yes q) (values_of s.values d) unspoken)
-    (λ e other. entry_other (each_state s.sides.dispositions) q d e other)
-    (λ h w still. ap is_yes (entry_same (each_state s.sides.dispositions) q d) ∙ forgets s d q still)
+    (λ e other. entry_other s.sides.dispositions q d e other)
+    (λ h w still. ap is_yes (entry_same s.sides.dispositions q d) ∙ forgets s d q still)
 
 -- other values while the option stays as it is
 pub revalued : (s : BulletinState) (d : Disposition) (v : Values) {n : Note} {wire : List ℕ}

@@ -1,4 +1,5 @@
 -- Every call of the bulletin end is one of a few steps, or a refusal. What holds of each of these holds of every call.
+use Rattle.std.specs.Prelude.{Option, Some, None, Result, Ok, Err}
 use mathlib.Core.Path.{◌≡◌, refl}
 use mathlib.Core.Bool.{Bool}
 use mathlib.Core.Logic.{⊎_elim}
@@ -17,7 +18,8 @@ use Rattle.codes.specs.declared.Whose.{Whose}
 use Rattle.codes.proofs.Entries.{found_cases}
 use Rattle.codes.proofs.Guards.{NoneHolds}
 use Rattle.keys.specs.declared.Key.{Key}
-use Rattle.negotiation.specs.declared.Asking.{Asking}
+use Rattle.codes.specs.declared.Code.{Code}
+use Rattle.negotiation.specs.declared.Move.{Move}
 use Rattle.negotiation.specs.declared.End.{End}
 use Rattle.negotiation.specs.declared.OptionState.{OptionState}
 use Rattle.negotiation.specs.declared.Reply.{Reply}
@@ -29,8 +31,6 @@ use Rattle.reader.specs.declared.Item.{Item}
 use Rattle.reader.specs.declared.Item.TheVariants.{Nothing, Data, Negotiated, BodyEnd, StrayCommand}
 use Rattle.reader.specs.Reading.{ReaderState, idle, read}
 use Rattle.bodies.specs.declared.MacroReply.{MacroReply}
-use Rattle.bodies.specs.declared.ReplyBody.{ReplyBody}
-use Rattle.bodies.specs.declared.ValueBody.{ValueBody}
 use Rattle.bodies.specs.MacroBodies.{reply_body}
 use Rattle.bodies.specs.ValueBodies.{value_body}
 use Rattle.sent_macros.specs.Sending.{define_bytes}
@@ -38,9 +38,8 @@ use Rattle.issues.specs.Issues.{with_present}
 use Rattle.disposition.specs.declared.Values.{Values}
 use Rattle.disposition.specs.ByOption.{with_ds, values_of}
 use Rattle.disposition.specs.Handled.{suggestion}
-use Rattle.subnegotiation.specs.declared.Checked.{Checked}
-use Rattle.subnegotiation.specs.declared.Checked.TheVariants.{Noted}
-use Rattle.subnegotiation.specs.Checks.{checked}
+use Rattle.subnegotiation.specs.Checks.{Checked, checked}
+use Rattle.subnegotiation.specs.declared.Subject.{Subject}
 use Rattle.bulletin.specs.State.{BulletinState, with_reader, with_values, with_definition, with_issues, Effect, sends, nothing, notes, CallEffect, done, refused}
 use Rattle.bulletin.specs.Network.{data_read, side_moved, negotiation_read, macro_replied, reply_read, value_read, body_handled, body_read, item_read, network_read}
 use Rattle.bulletin.specs.Calls.{network_call, ask_of, ask_call, suggest_call, order_bytes, order_call, define_guards, define_call, use_call, item_sent, text_call, issue_call}
@@ -70,19 +69,19 @@ module _ {R : BulletinState → Effect → Type 0} (k : EachStep R) where
         let t = heard_by End.Bulletin s.sides v option in
         k.moves s t.side t.next t.whose t.reply option (λ r. hears r v option)
 
-    reply_holds : (r : ReplyBody) → R s (reply_read s r)
-    reply_holds ReplyBody.Unreadable = k.stays s Unreadable
-    reply_holds (ReplyBody.Readable r) = k.replies s r
+    reply_holds : (r : Option MacroReply) → R s (reply_read s r)
+    reply_holds None = k.stays s Unreadable
+    reply_holds (Some r) = k.replies s r
 
-    value_holds : (d : Disposition) (v : ValueBody) → R s (value_read s d v)
-    value_holds d ValueBody.Unreadable = k.stays s Unreadable
-    value_holds d (ValueBody.Readable v) = k.values s d _
+    value_holds : (d : Disposition) (v : Option ℕ) → R s (value_read s d v)
+    value_holds d None = k.stays s Unreadable
+    value_holds d (Some v) = k.values s d _
 
     handled_holds : (body : List ℕ) (c : Checked) → R s (body_handled s body c)
-    handled_holds body (Noted n) = k.stays s n
-    handled_holds body Checked.Rcte = k.stays s OtherOption
-    handled_holds body (Checked.Disposes d) = value_holds d (value_body d DR body)
-    handled_holds body Checked.Macro = reply_holds (reply_body body)
+    handled_holds body (Err n) = k.stays s n
+    handled_holds body (Ok Subject.Rcte) = k.stays s OtherOption
+    handled_holds body (Ok (Subject.Disposes d)) = value_holds d (value_body d DR body)
+    handled_holds body (Ok Subject.Macro) = reply_holds (reply_body body)
 
     body_holds : (marred : Bool) (body : List ℕ) → R s (body_read s marred body)
     unfolding body_read
@@ -94,10 +93,10 @@ module _ {R : BulletinState → Effect → Type 0} (k : EachStep R) where
         side : Side
         side = asked_side End.Bulletin option way
 
-        go : (a : Asking) → asking_of s.sides side (asked_enable way) ≡ a
+        go : (a : Result Move Code) → asking_of s.sides side (asked_enable way) ≡ a
             → R s (asked_by (refused s) (λ q r. done (side_moved s side q (reply_bytes (asked_whose way) r option))) a).effect
-        go (Asking.Refused c) e = k.stays s Clear
-        go (Asking.Moves q r) e = k.moves s side q _ r option (λ reached. asks reached option way q r e)
+        go (Err c) e = k.stays s Clear
+        go (Ok m) e = k.moves s side m.next _ m.reply option (λ reached. asks reached option way m.next m.reply e)
 
     -- a refusal does nothing
     guarded_holds : (gs : List Guard) (a : CallEffect) → (NoneHolds gs → R s a.effect) → R s (guarded gs (refused s) a).effect

@@ -16,9 +16,7 @@ use Rattle.negotiation.specs.Carried.{reply_bytes, disposition_in_force, asked_s
 use Rattle.bodies.specs.RcteBodies.{sets_breaks, sets_sends}
 use Rattle.sent_macros.specs.Sending.{Definitions, sent_of, is_pending, is_too_long, define_bytes, all_data_bytes, accepted_text, status_of}
 use Rattle.issues.specs.Issues.{with_present, kept_of, macro_guards}
-use Rattle.disposition.specs.declared.Waits.{Waits}
-use Rattle.disposition.specs.declared.Handlings.{Handlings}
-use Rattle.disposition.specs.ByOption.{with_ds, values_of, wait_of, is_waiting, waits_from, handling_of}
+use Rattle.disposition.specs.ByOption.{Waits, Handlings, with_ds, values_of, wait_of, is_waiting, handling_of}
 use Rattle.disposition.specs.Handled.{suggestion, suggest_guards, Report, reports_of}
 use Rattle.disposition.specs.ItemData.{item_data, takes_part, awaits}
 use Rattle.bulletin.specs.declared.Output.{Output}
@@ -113,7 +111,7 @@ abbrev pub wait_after : Waits → Handlings → Key → Disposition → Bool
 wait_after w h k d = wait_of w d || (takes_part k d && awaits (handling_of h d))
 
 abbrev pub waits_after : BulletinState → Key → Waits
-waits_after s k = waits_from (for_each (wait_after s.waits (handlings_now s) k))
+waits_after s k = for_each (wait_after s.waits (handlings_now s) k)
 
 unfoldable pub item_sent : BulletinState → Key → Effect
 item_sent s k = sends (item_bytes (definitions_now s) (handlings_now s) k) (with_waits s (waits_after s k))

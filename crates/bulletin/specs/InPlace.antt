@@ -1,15 +1,13 @@
 -- A byte that changes nothing but the sides, the reader's phase and the waits, read from these parts alone.
-use Rattle.std.specs.Prelude.{◌≡◌, Bool, true, false, cond, List, [], ◌∷◌, ℕ}
-use Rattle.lists.specs.Buffers.{Lent, untouched, WroteBothAtStart}
+use Rattle.std.specs.Prelude.{◌≡◌, Option, Some, None, Bool, true, false, cond, List, [], ◌∷◌, ℕ}
+use Rattle.lists.specs.Buffers.{Lent, untouched, RoomFor, WroteBothAtStart}
 use Rattle.codes.specs.declared.Note.TheVariants.{Clear}
 use Rattle.codes.specs.declared.Verb.{Verb}
 use Rattle.negotiation.specs.declared.End.{End}
 use Rattle.negotiation.specs.declared.Side.{Side}
 use Rattle.negotiation.specs.declared.Side.TheVariants.{Echo, BulletinSga, Rcte, Macro, PrinterSga, Disposes, Uncarried}
-use Rattle.negotiation.specs.declared.Sides.{Sides}
 use Rattle.negotiation.specs.declared.Turn.{Turn}
 use Rattle.negotiation.specs.Carried.{moved, reply_bytes, heard_by}
-use Rattle.disposition.specs.declared.Waits.{Waits}
 use Rattle.disposition.specs.ByOption.{no_waits}
 use Rattle.reader.specs.declared.Phase.{Phase}
 use Rattle.reader.specs.declared.Item.{Item}
@@ -18,16 +16,14 @@ use Rattle.reader.specs.Reading.{item_by}
 use Rattle.reader.specs.Phases.{phase_read}
 use Rattle.bulletin.specs.declared.Bulletin.{Bulletin}
 use Rattle.bulletin.specs.declared.in_place.InPlace.{InPlace}
+use Rattle.bulletin.specs.declared.in_place.Parts.{Parts}
 use Rattle.bulletin.specs.State.{Effect}
 use Rattle.bulletin.specs.Network.{network_read}
 use Rattle.bulletin.specs.Refinement.{view_bulletin}
 
--- what such a byte does; one that needs the rest of the state is not handled
+-- what such a byte does
 pub record InPlaceEffect : Type 0 where
-  pub handled : Bool
-  pub sides : Sides
-  pub phase : Phase
-  pub waits : Waits
+  pub parts : Parts
   pub host : List ℕ
   pub wire : List ℕ
 
@@ -41,80 +37,87 @@ moves_alone PrinterSga = true
 moves_alone (Disposes d) = false
 moves_alone Uncarried = true
 
--- data goes to the host, and ends every wait
-abbrev pub gives_data : Sides → (next : Phase) → ℕ → InPlaceEffect
-gives_data sides next b = record { handled = true; sides = sides; phase = next; waits = no_waits; host = b ∷ []; wire = [] }
-
 -- a byte in these parts; next is the phase that it moves the reader to
-module _ (sides : Sides) (phase : Phase) (waits : Waits) where
-  abbrev pub unhandled : InPlaceEffect
-  unhandled = record { handled = false; sides = sides; phase = phase; waits = waits; host = []; wire = [] }
+module _ (p : Parts) where
+  -- data goes to the host, and ends every wait
+  abbrev pub gives_data : (next : Phase) → ℕ → InPlaceEffect
+  gives_data next b = record { parts = record { sides = p.sides; phase = next; waits = no_waits }; host = b ∷ []; wire = [] }
 
   abbrev pub phase_moves : (next : Phase) → InPlaceEffect
-  phase_moves next = record { handled = true; sides = sides; phase = next; waits = waits; host = []; wire = [] }
+  phase_moves next = record { parts = record { sides = p.sides; phase = next; waits = p.waits }; host = []; wire = [] }
 
   abbrev pub side_moves : (next : Phase) → Turn → (option : ℕ) → InPlaceEffect
   side_moves next t option = record {
-    handled = true;
-    sides = moved sides t.side t.next;
-    phase = next;
-    waits = waits;
+    parts = record { sides = moved p.sides t.side t.next; phase = next; waits = p.waits };
     host = [];
     wire = reply_bytes t.whose t.reply option;
   }
 
-  abbrev pub turn_in_place : (next : Phase) → Turn → (option : ℕ) → InPlaceEffect
-  turn_in_place next t option = cond (moves_alone t.side) (side_moves next t option) unhandled
+  -- none where the byte needs the rest of the state
+  abbrev pub turn_in_place : (next : Phase) → Turn → (option : ℕ) → Option InPlaceEffect
+  turn_in_place next t option = cond (moves_alone t.side) (Some (side_moves next t option)) None
 
-  abbrev pub negotiated_in_place : (next : Phase) → Verb → ℕ → InPlaceEffect
-  negotiated_in_place next v option = turn_in_place next (heard_by End.Bulletin sides v option) option
+  abbrev pub negotiated_in_place : (next : Phase) → Verb → ℕ → Option InPlaceEffect
+  negotiated_in_place next v option = turn_in_place next (heard_by End.Bulletin p.sides v option) option
 
-  abbrev pub item_in_place : (next : Phase) → Item → InPlaceEffect
-  item_in_place next i = item_by (phase_moves next) (gives_data sides next) (negotiated_in_place next) unhandled unhandled i
+  abbrev pub item_in_place : PhaseRead → Option InPlaceEffect
+  item_in_place m = item_by (Some (phase_moves m.phase)) (λ b. Some (gives_data m.phase b)) (negotiated_in_place m.phase) None None m.item
 
-  abbrev pub moved_in_place : PhaseRead → InPlaceEffect
-  moved_in_place m = cond m.alone (item_in_place m.phase m.item) unhandled
+  abbrev pub moved_in_place : Option PhaseRead → Option InPlaceEffect
+  moved_in_place None = None
+  moved_in_place (Some m) = item_in_place m
 
-  unfoldable pub in_place_read : ℕ → InPlaceEffect
-  in_place_read b = moved_in_place (phase_read phase b)
+  unfoldable pub in_place_read : ℕ → Option InPlaceEffect
+  in_place_read b = moved_in_place (phase_read p.phase b)
 
--- the code's state with these parts, the rest as it was
-abbrev pub in_place : Bulletin → Sides → Phase → (waits : Waits) → Bulletin
-in_place p sides phase waits = record {
-  sides = sides;
-  reader = record { phase = phase; marred = p.reader.marred; body = p.reader.body; len = p.reader.len };
-  table = p.table;
-  values = p.values;
-  waits = waits;
-  issues = p.issues;
+-- these parts of the code's state, and the state with them, the rest as it was
+abbrev pub parts_of : Bulletin → Parts
+parts_of s = record { sides = s.sides; phase = s.reader.phase; waits = s.waits }
+
+abbrev pub in_place : Bulletin → Parts → Bulletin
+in_place s p = record {
+  sides = p.sides;
+  reader = record { phase = p.phase; marred = s.reader.marred; body = s.reader.body; len = s.reader.len };
+  table = s.table;
+  values = s.values;
+  waits = p.waits;
+  issues = s.issues;
 }
 
 -- an effect on parts, as that on the whole state
 abbrev pub step_in_place : Bulletin → InPlaceEffect → Effect
-step_in_place p e = record { note = Clear; host = e.host; wire = e.wire; state = view_bulletin (in_place p e.sides e.phase e.waits) }
+step_in_place s e = record { note = Clear; host = e.host; wire = e.wire; state = view_bulletin (in_place s e.parts) }
 
 -- Assumed: any state of the code, reached or not. Promised: a byte that is handled does what a network byte does there, without a
 -- note, and leaves all but these parts as it was. Ruled out: data that leaves output waiting; a negotiation that is handled without
 -- what follows from it.
 abbrev pub ReadInPlace : Type 0
-ReadInPlace = (p : Bulletin) (b : ℕ) → let e = in_place_read p.sides p.reader.phase p.waits b in
-    e.handled ≡ true → network_read (view_bulletin p) b ≡ step_in_place p e
+ReadInPlace = (s : Bulletin) (b : ℕ) (e : InPlaceEffect) → in_place_read (parts_of s) b ≡ Some e → network_read (view_bulletin s) b ≡ step_in_place s e
 
--- the code's answer is the rule's: whether it is handled, the parts, the counts, and every byte of the two lent buffers
-pub record RefinesInPlace (e : InPlaceEffect) (lent_host lent_wire : Lent) (r : InPlace) : Type 0 where
-  pub handled : r.handled ≡ e.handled
-  pub sides : r.sides ≡ e.sides
-  pub phase : r.phase ≡ e.phase
-  pub waits : r.waits ≡ e.waits
+-- there is room for what is written
+abbrev pub HasRoom : Option InPlaceEffect → (host wire : List ℕ) → Type 0
+HasRoom None host wire = Unit {0}
+HasRoom (Some e) host wire = RoomFor e.host host × RoomFor e.wire wire
+
+abbrev pub HasRoomOnWire : Option InPlaceEffect → (wire : List ℕ) → Type 0
+HasRoomOnWire None wire = Unit {0}
+HasRoomOnWire (Some e) wire = RoomFor e.wire wire
+
+-- the code's answer is the rule's: the parts, the counts, and every byte of the two lent buffers
+pub record DoesInPlace (e : InPlaceEffect) (lent_host lent_wire : Lent) (r : InPlace) : Type 0 where
+  pub parts : r.parts ≡ e.parts
   pub wrote : WroteBothAtStart e.host e.wire lent_host lent_wire r.host r.wire
+
+-- .. or none, just where the rule has none, and nothing is written
+abbrev pub RefinesInPlace : Option InPlaceEffect → (lent_host lent_wire : Lent) → Option InPlace → Type 0
+RefinesInPlace None lent_host lent_wire None = WroteBothAtStart [] [] lent_host lent_wire 0 0
+RefinesInPlace None lent_host lent_wire (Some r) = ⊥
+RefinesInPlace (Some e) lent_host lent_wire None = ⊥
+RefinesInPlace (Some e) lent_host lent_wire (Some r) = DoesInPlace e lent_host lent_wire r
 
 -- where one of the buffers is not lent, nothing is written to it
 pub record RefinesInPlaceOnHost (e : InPlaceEffect) (lent_host : Lent) (r : InPlace) : Type 0 where
-  pub met : (wire : List ℕ) → RefinesInPlace e lent_host (untouched wire) r
+  pub met : (wire : List ℕ) → DoesInPlace e lent_host (untouched wire) r
 
-pub record RefinesInPlaceOnWire (e : InPlaceEffect) (lent_wire : Lent) (r : InPlace) : Type 0 where
+pub record RefinesInPlaceOnWire (e : Option InPlaceEffect) (lent_wire : Lent) (r : Option InPlace) : Type 0 where
   pub met : (host : List ℕ) → RefinesInPlace e (untouched host) lent_wire r
-
--- the code's answer that gives the host nothing
-abbrev pub answered_in_place : Bool → Sides → Phase → (waits : Waits) → (wire : ℕ) → InPlace
-answered_in_place handled sides phase waits wire = record { handled = handled; sides = sides; phase = phase; waits = waits; host = 0; wire = wire }

@@ -8,6 +8,7 @@ pub mod Limits
 pub mod Apart
 pub mod Refinement
 pub mod RefinementOfRuns
+pub mod NetworkEnd
 pub mod InPlace
 pub mod EmptyTable
 pub mod Determined

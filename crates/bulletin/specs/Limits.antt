@@ -6,7 +6,7 @@ use Rattle.keys.specs.declared.Key.{Key}
 use Rattle.negotiation.specs.declared.OptionState.{OptionState}
 use Rattle.negotiation.specs.declared.Side.{Side}
 use Rattle.codes.specs.declared.Disposition.{Disposition}
-use Rattle.disposition.specs.declared.Handlings.{Handlings}
+use Rattle.disposition.specs.ByOption.{Handlings}
 use Rattle.disposition.specs.Handled.{suggestion}
 use Rattle.sent_macros.specs.Sending.{Definitions, is_too_long, define_bytes}
 use Rattle.bulletin.specs.State.{BulletinState, Effect}

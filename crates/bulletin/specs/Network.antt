@@ -1,5 +1,5 @@
 -- A network byte at the bulletin end.
-use Rattle.std.specs.Prelude.{Bool, cond, List, [], ◌∷◌, ℕ, set}
+use Rattle.std.specs.Prelude.{Bool, cond, List, [], ◌∷◌, ℕ, set, Option, Some, None, Ok, Err}
 use Rattle.codes.specs.Telnet.{DR}
 use Rattle.codes.specs.declared.Disposition.{Disposition}
 use Rattle.codes.specs.declared.Note.TheVariants.{Clear, Unreadable, OtherOption, Stray}
@@ -14,16 +14,13 @@ use Rattle.reader.specs.declared.Item.{Item}
 use Rattle.reader.specs.Reading.{idle, read, item_by, byte_by}
 use Rattle.bodies.specs.declared.MacroReply.{MacroReply}
 use Rattle.bodies.specs.declared.MacroReply.TheVariants.{Accept, Refuse, PleaseCancel}
-use Rattle.bodies.specs.declared.ReplyBody.{ReplyBody}
-use Rattle.bodies.specs.declared.ValueBody.{ValueBody}
 use Rattle.bodies.specs.MacroBodies.{reply_body}
 use Rattle.bodies.specs.ValueBodies.{value_body}
 use Rattle.sent_macros.specs.Sending.{Definitions, no_definitions, sent_of, on_accept, on_refuse, cancel_bytes, cancelled}
 use Rattle.issues.specs.Issues.{forgetting, kept_after}
 use Rattle.disposition.specs.ByOption.{unspoken, with_dr, values_of, no_waits}
-use Rattle.subnegotiation.specs.declared.Checked.{Checked}
-use Rattle.subnegotiation.specs.declared.Checked.TheVariants.{Noted}
-use Rattle.subnegotiation.specs.Checks.{checked}
+use Rattle.subnegotiation.specs.Checks.{Checked, checked}
+use Rattle.subnegotiation.specs.declared.Subject.{Subject}
 use Rattle.bulletin.specs.State.{BulletinState, with_sides, with_reader, with_macros, with_values, with_waits, Effect, sends, nothing, notes}
 
 -- data goes to the host, and ends every wait
@@ -65,20 +62,20 @@ bytes_after t (PleaseCancel x) = cancel_bytes t x
 abbrev pub macro_replied : BulletinState → MacroReply → Effect
 macro_replied s r = sends (bytes_after s.table r) (with_macros s (table_after s.table r) (kept_after s.table s.issues r))
 
-abbrev pub reply_read : BulletinState → ReplyBody → Effect
-reply_read s ReplyBody.Unreadable = notes Unreadable s
-reply_read s (ReplyBody.Readable r) = macro_replied s r
+abbrev pub reply_read : BulletinState → Option MacroReply → Effect
+reply_read s None = notes Unreadable s
+reply_read s (Some r) = macro_replied s r
 
-abbrev pub value_read : BulletinState → Disposition → ValueBody → Effect
-value_read s d ValueBody.Unreadable = notes Unreadable s
-value_read s d (ValueBody.Readable v) = nothing (with_values s d (with_dr (values_of s.values d) v))
+abbrev pub value_read : BulletinState → Disposition → Option ℕ → Effect
+value_read s d None = notes Unreadable s
+value_read s d (Some v) = nothing (with_values s d (with_dr (values_of s.values d) v))
 
 -- a body by its option, or the note that ends its handling; one of RCTE is never given to this end
 abbrev pub body_handled : BulletinState → List ℕ → Checked → Effect
-body_handled s body (Noted n) = notes n s
-body_handled s body Checked.Rcte = notes OtherOption s
-body_handled s body (Checked.Disposes d) = value_read s d (value_body d DR body)
-body_handled s body Checked.Macro = reply_read s (reply_body body)
+body_handled s body (Err n) = notes n s
+body_handled s body (Ok Subject.Rcte) = notes OtherOption s
+body_handled s body (Ok (Subject.Disposes d)) = value_read s d (value_body d DR body)
+body_handled s body (Ok Subject.Macro) = reply_read s (reply_body body)
 
 unfoldable pub body_read : BulletinState → Bool → List ℕ → Effect
 body_read s marred body = body_handled s body (checked End.Bulletin s.sides marred body)

@@ -99,9 +99,6 @@ step_of n wire b = record { note = n; host = 0; wire = wire; state = b }
 abbrev pub sides_moved : Bulletin → Side → OptionState → Bulletin
 sides_moved b side q = record { sides = moved b.sides side q; reader = b.reader; table = b.table; values = b.values; waits = b.waits; issues = b.issues }
 
-abbrev pub macros_set : Bulletin → SendingTable → Issues → Bulletin
-macros_set b t i = record { sides = b.sides; reader = b.reader; table = t; values = b.values; waits = b.waits; issues = i }
-
 -- the state that a step leaves
 pub record RefinesState (s : BulletinState) (b r : Bulletin) : Type 0 where
   pub view : view_bulletin r ≡ s

@@ -13,10 +13,7 @@ use Rattle.sent_macros.specs.Sending.{Definitions, no_definitions, defining}
 use Rattle.issues.specs.declared.Issues.{Issues}
 use Rattle.issues.specs.Issues.{first_issue, keeping}
 use Rattle.disposition.specs.declared.Values.{Values}
-use Rattle.disposition.specs.declared.AllValues.{AllValues}
-use Rattle.disposition.specs.declared.Waits.{Waits}
-use Rattle.disposition.specs.declared.Handlings.{Handlings}
-use Rattle.disposition.specs.ByOption.{all_unspoken, with_values_of, no_waits, wait_of, with_wait_of}
+use Rattle.disposition.specs.ByOption.{AllValues, Waits, Handlings, all_unspoken, with_values_of, no_waits, wait_of, with_wait_of}
 use Rattle.disposition.specs.Handled.{handling, handlings_in}
 use Rattle.disposition.specs.ItemData.{awaits}
 

@@ -2,8 +2,7 @@
 use Rattle.std.specs.Prelude.{Bool, not, ◌&&◌, cond, List, ℕ}
 use Rattle.lists.specs.Fronts.{front}
 use Rattle.codes.specs.Telnet.{not_iac}
-use Rattle.disposition.specs.declared.Waits.{Waits}
-use Rattle.disposition.specs.ByOption.{is_waiting}
+use Rattle.disposition.specs.ByOption.{Waits, is_waiting}
 use Rattle.reader.specs.declared.Phase.{Phase}
 use Rattle.reader.specs.Reading.{is_between}
 

@@ -1,7 +1,7 @@
 // The bulletin end's calls. None asks anything of its caller.
 ghost use Rattle.std.specs.Prelude.{◌≡◌};
 ghost use Rattle.lists.specs.Buffers.{lent, RoomFor};
-ghost use Rattle.codes.specs.Answers.{refusal_of};
+ghost use Rattle.codes.specs.Answers.{allowed};
 ghost use Rattle.codes.specs.Telnet.{DS};
 ghost use Rattle.disposition.specs.Handled.{reports_of, suggestion};
 ghost use Rattle.bulletin.specs.Calls.{
@@ -27,28 +27,22 @@ ghost use Rattle.bulletin.specs.RefinementOfRuns.{RefinesRun};
 ghost use Rattle.bulletin.specs.Refinement.{view_bulletin, WholeBulletin, RefinesAnswer, RefinesAnswerOnWire, RefinesOutcomeOnWire, fresh_cells, refusal, answered};
 
 use crate::{Answer, Bulletin, Output, RunAnswer, Standing, Step, items, moves, network, run};
-use codes::{Code, DS, Disposition, IAC, MaybeDisposition, Note};
+use codes::{Code, DS, Disposition, Each, IAC, Note};
 use disposition::Handlings;
 use keys::Key;
-use negotiation::{Asking, End};
+use negotiation::{End, Turn};
 use sent_macros::Status;
 
 pub fn fresh() -> Bulletin
     ensures { result ≡ fresh_cells }
 {
-    let sides = negotiation::all_no();
-    let reader = reader::idle();
-    let table = sent_macros::none();
-    let values = disposition::all_unspoken();
-    let waits = disposition::no_waits();
-    let issues = issues::first();
     Bulletin {
-        sides,
-        reader,
-        table,
-        values,
-        waits,
-        issues,
+        sides: negotiation::all_no(),
+        reader: reader::idle(),
+        table: sent_macros::none(),
+        values: Each::all(disposition::unspoken()),
+        waits: Each::all(false),
+        issues: issues::first(),
     }
 }
 
@@ -68,14 +62,12 @@ fn refused(s: Bulletin, code: Code) -> Answer
 fn done(step: Step) -> Answer
     ensures { (result ≡ answered step) × WholeBulletin step.state }
 {
-    let state = step.state;
-    let note = step.note;
     Answer {
         code: Code::Done,
-        note,
+        note: step.note,
         host: step.host,
         wire: step.wire,
-        state,
+        state: step.state,
     }
 }
 
@@ -85,8 +77,7 @@ pub fn network_byte(s: Bulletin, b: u8, host: &mut [u8], wire: &mut [u8]) -> Ans
     if codes::no_room(host.len(), wire.len()) {
         return refused(s, Code::NoRoom);
     }
-    let step = network::network_read(s, b, host, wire);
-    done(step)
+    done(network::network_read(s, b, host, wire))
 }
 
 // Network bytes one after the other, each in what the one before left unused of the two buffers. Stops before one that would be
@@ -108,15 +99,16 @@ pub fn ask(s: Bulletin, option: u8, way: u8, wire: &mut [u8]) -> Answer
         return refused(s, Code::NoRoom);
     }
     let side = negotiation::asked_side(End::Bulletin, option, way);
-    let enable = negotiation::asked_enable(way);
-    let sides = s.sides;
-    let asking = negotiation::asking_of(sides, side, enable);
-    match asking {
-        Asking::Refused(code) => refused(s, code),
-        Asking::Moves(q, reply) => {
-            let whose = negotiation::asked_whose(way);
-            let step = moves::moved_with_reply(s, side, q, whose, reply, option, wire);
-            done(step)
+    match negotiation::asking_of(s.sides, side, negotiation::asked_enable(way)) {
+        Err(code) => refused(s, code),
+        Ok(asked) => {
+            let turn = Turn {
+                side,
+                next: asked.next,
+                whose: negotiation::asked_whose(way),
+                reply: asked.reply,
+            };
+            done(moves::moved_with_reply(s, turn, option, wire))
         }
     }
 }
@@ -126,22 +118,14 @@ fn suggest_of(s: Bulletin, v: u8, d: Disposition, wire: &mut [u8]) -> Answer
     requires { RoomFor (suggestion d DS v) wire.old }
     ensures { RefinesOutcomeOnWire (suggest_of (view_bulletin s) v d) s (lent wire) result }
 {
-    let sides = s.sides;
-    let all = s.values;
-    let old = disposition::values_of(all, d);
-    let code = disposition::suggest_refusal(
-        d,
-        negotiation::disposition_in_force(sides, d),
-        old.ds,
-        v,
-    );
-    if !codes::is_done(code) {
+    let on = negotiation::disposition_in_force(s.sides, d);
+    let old = s.values.of(d);
+    if let Err(code) = disposition::suggest_refusal(d, on, old.ds, v) {
         return refused(s, code);
     }
     let n = disposition::put_suggestion(d, DS, v, wire);
     let t = moves::with_values(s, d, disposition::with_ds(old, v));
-    let step = moves::step(t, Note::Clear, n);
-    done(step)
+    done(Step::sends(t, n))
 }
 
 // The same of an option by its number.
@@ -151,100 +135,91 @@ pub fn suggest(s: Bulletin, option: u8, v: u8, wire: &mut [u8]) -> Answer
     if codes::no_wire(wire.len()) {
         return refused(s, Code::NoRoom);
     }
-    let found = codes::disposition_numbered(option);
-    match found {
-        MaybeDisposition::Some(d) => suggest_of(s, v, d, wire),
-        MaybeDisposition::None => refused(s, Code::NotCarried),
+    match codes::disposition_numbered(option) {
+        Some(d) => suggest_of(s, v, d, wire),
+        None => refused(s, Code::NotCarried),
     }
 }
 
-// The refusals of an order in their order; Done: none.
-fn order_refusal(s: Bulletin, cmd: u8, wire: usize) -> Code
-    ensures { result ≡ refusal_of (order_guards (view_bulletin s) cmd wire) }
+// The refusals of an order, in their order.
+#[tactic(auto, unfolding(codes::specs::Answers::allowed))]
+fn order_refusal(s: Bulletin, cmd: u8, wire: usize) -> Result<(), Code>
+    ensures { result ≡ allowed (order_guards (view_bulletin s) cmd wire) }
 {
     if codes::no_wire(wire) {
-        return Code::NoRoom;
+        return Err(Code::NoRoom);
     }
-    let sides = s.sides;
-    if !negotiation::rcte_in_force(sides) {
-        return Code::NotInForce;
+    if !negotiation::rcte_in_force(s.sides) {
+        return Err(Code::NotInForce);
     }
     if items::bad_order(cmd) {
-        Code::BadValue
-    } else {
-        Code::Done
+        return Err(Code::BadValue);
     }
+    Ok(())
 }
 
 // An RCTE command; a class pair is sent if the bit of cmd for it is on.
 pub fn order(s: Bulletin, cmd: u8, breaks: u16, sends: u16, wire: &mut [u8]) -> Answer
     ensures { RefinesAnswerOnWire (order_call (view_bulletin s) cmd breaks sends) s (lent wire) result }
 {
-    let code = order_refusal(s, cmd, wire.len());
-    if !codes::is_done(code) {
+    if let Err(code) = order_refusal(s, cmd, wire.len()) {
         return refused(s, code);
     }
     let n = items::put_order(cmd, breaks, sends, wire);
-    let step = moves::step(s, Note::Clear, n);
-    done(step)
+    done(Step::sends(s, n))
 }
 
-// The refusals of a DEFINE before its size, in their order; Done: none.
-fn define_refusal(s: Bulletin, x: u8, wire: usize) -> Code
-    ensures { result ≡ refusal_of (define_guards_before_size (view_bulletin s) x wire) }
+// The refusals of a DEFINE before its size, in their order.
+#[tactic(auto, unfolding(codes::specs::Answers::allowed))]
+fn define_refusal(s: Bulletin, x: u8, wire: usize) -> Result<(), Code>
+    ensures { result ≡ allowed (define_guards_before_size (view_bulletin s) x wire) }
 {
     if codes::no_wire(wire) {
-        return Code::NoRoom;
+        return Err(Code::NoRoom);
     }
-    let sides = s.sides;
-    if !negotiation::macros_in_force(End::Bulletin, sides) {
-        return Code::NotInForce;
+    if !negotiation::macros_in_force(End::Bulletin, s.sides) {
+        return Err(Code::NotInForce);
     }
     if x == IAC {
-        return Code::BadMacroByte;
+        return Err(Code::BadMacroByte);
     }
     if sent_macros::is_pending(&s.table.statuses, x) {
-        Code::Unanswered
-    } else {
-        Code::Done
+        return Err(Code::Unanswered);
     }
+    Ok(())
 }
 
 // A macro byte's new text, of any length.
 pub fn define(s: Bulletin, x: u8, text: &[u8], wire: &mut [u8]) -> Answer
     ensures { RefinesAnswerOnWire (define_call (view_bulletin s) x text.now) s (lent wire) result }
 {
-    let code = define_refusal(s, x, wire.len());
-    if !codes::is_done(code) {
+    if let Err(code) = define_refusal(s, x, wire.len()) {
         return refused(s, code);
     }
-    let old = s.table;
-    let d = sent_macros::define(old, x, text, wire);
-    if !d.fits {
+    let Some(defined) = sent_macros::define(s.table, x, text, wire) else {
         return refused(s, Code::TooLong);
-    }
-    let n = d.wire;
-    let table = d.table;
-    let issues = issues::keep(s.issues, x);
-    let t = moves::with_macros(s, table, issues);
-    let step = moves::step(t, Note::Clear, n);
-    done(step)
+    };
+    let t = Bulletin {
+        table: defined.table,
+        issues: issues::keep(s.issues, x),
+        ..s
+    };
+    done(Step::sends(t, defined.wire))
 }
 
-// The refusals of a macro's use in their order; Done: none.
-fn use_refusal(s: Bulletin, x: u8, wire: usize) -> Code
-    ensures { result ≡ refusal_of (use_guards (view_bulletin s) x wire) }
+// The refusals of a macro's use, in their order.
+#[tactic(auto, unfolding(codes::specs::Answers::allowed))]
+fn use_refusal(s: Bulletin, x: u8, wire: usize) -> Result<(), Code>
+    ensures { result ≡ allowed (use_guards (view_bulletin s) x wire) }
 {
     if codes::no_wire(wire) {
-        return Code::NoRoom;
+        return Err(Code::NoRoom);
     }
-    let sides = s.sides;
-    if !negotiation::macros_in_force(End::Bulletin, sides) {
-        return Code::NotInForce;
+    if !negotiation::macros_in_force(End::Bulletin, s.sides) {
+        return Err(Code::NotInForce);
     }
-    let waits = s.waits;
-    if disposition::is_waiting(waits) {
-        return Code::OutputWaits;
+    if disposition::is_waiting(s.waits) {
+        return Err(Code::OutputWaits);
     }
     issues::use_refusal(&s.table.statuses, s.issues, x)
 }
@@ -253,47 +228,43 @@ fn use_refusal(s: Bulletin, x: u8, wire: usize) -> Code
 pub fn use_macro(s: Bulletin, x: u8, wire: &mut [u8]) -> Answer
     ensures { RefinesAnswerOnWire (use_call (view_bulletin s) x) s (lent wire) result }
 {
-    let code = use_refusal(s, x, wire.len());
-    if !codes::is_done(code) {
+    if let Err(code) = use_refusal(s, x, wire.len()) {
         return refused(s, code);
     }
     wire[0] = x;
-    let step = moves::step(s, Note::Clear, 1);
-    done(step)
+    done(Step::sends(s, 1))
 }
 
-// The refusals of a text item in their order; Done: none.
-fn text_refusal(s: Bulletin, k: Key, wire: usize) -> Code
-    ensures { result ≡ refusal_of (text_guards (view_bulletin s) k wire) }
+// The refusals of a text item, in their order.
+#[tactic(auto, unfolding(codes::specs::Answers::allowed))]
+fn text_refusal(s: Bulletin, k: Key, wire: usize) -> Result<(), Code>
+    ensures { result ≡ allowed (text_guards (view_bulletin s) k wire) }
 {
     if codes::no_wire(wire) {
-        return Code::NoRoom;
+        return Err(Code::NoRoom);
     }
     if keys::bad_command(k) {
-        return Code::BadCommand;
+        return Err(Code::BadCommand);
     }
-    let waits = s.waits;
-    if disposition::is_waiting(waits) {
-        Code::OutputWaits
-    } else {
-        Code::Done
+    if disposition::is_waiting(s.waits) {
+        return Err(Code::OutputWaits);
     }
+    Ok(())
 }
 
 // A text item; output waits behind it for each option that takes part with 254.
 pub fn text_item(s: Bulletin, k: Key, wire: &mut [u8]) -> Answer
     ensures { RefinesAnswerOnWire (text_call (view_bulletin s) k) s (lent wire) result }
 {
-    let code = text_refusal(s, k, wire.len());
-    if !codes::is_done(code) {
+    if let Err(code) = text_refusal(s, k, wire.len()) {
         return refused(s, code);
     }
     let n = items::put_item(s, k, wire);
-    let waits = items::waits_after(s, k);
-    let mut t = s;
-    t.waits = waits;
-    let step = moves::step(t, Note::Clear, n);
-    done(step)
+    let t = Bulletin {
+        waits: items::waits_after(s, k),
+        ..s
+    };
+    done(Step::sends(t, n))
 }
 
 // The forecast issue is another from now on.
@@ -303,30 +274,28 @@ pub fn issue(s: Bulletin, n: u16, wire: &mut [u8]) -> Answer
     if codes::no_wire(wire.len()) {
         return refused(s, Code::NoRoom);
     }
-    let issues = issues::with_present(s.issues, n);
-    let mut t = s;
-    t.issues = issues;
-    let step = moves::step(t, Note::Clear, 0);
-    done(step)
+    let t = Bulletin {
+        issues: issues::with_present(s.issues, n),
+        ..s
+    };
+    done(Step::sends(t, 0))
 }
 
 // How the last DEFINE of a byte stands, and the issue that it kept; with BM not in force every byte is free.
 pub fn macro_standing(s: Bulletin, x: u8) -> Standing
     ensures { result ≡ macro_standing (view_bulletin s) x }
 {
-    let sides = s.sides;
-    let issues = s.issues;
-    if negotiation::macros_in_force(End::Bulletin, sides) {
+    if negotiation::macros_in_force(End::Bulletin, s.sides) {
         return Standing {
             status: sent_macros::status_at(&s.table.statuses, x),
-            kept: issues::kept_of(issues, x),
-            present: issues.present,
+            kept: issues::kept_of(s.issues, x),
+            present: s.issues.present,
         };
     }
     Standing {
         status: Status::Free,
         kept: 0,
-        present: issues.present,
+        present: s.issues.present,
     }
 }
 
@@ -341,8 +310,7 @@ pub fn report(s: Bulletin) -> Handlings
 pub fn output(s: Bulletin) -> Output
     ensures { result ≡ output_now (view_bulletin s) }
 {
-    let waits = s.waits;
-    if disposition::is_waiting(waits) {
+    if disposition::is_waiting(s.waits) {
         Output::Waiting
     } else {
         Output::Ready

@@ -1,142 +1,100 @@
 // Network bytes read from the sides, the phase and the waits alone, so that the rest of the state stays where it lies.
 ghost use Rattle.std.specs.Prelude.{◌≡◌};
 ghost use Rattle.lists.specs.Buffers.{lent, RoomFor};
-ghost use Rattle.bulletin.specs.InPlace.{moves_alone, answered_in_place, gives_data, negotiated_in_place, item_in_place, in_place_read, RefinesInPlace, RefinesInPlaceOnHost, RefinesInPlaceOnWire};
+ghost use Rattle.bulletin.specs.InPlace.{moves_alone, gives_data, phase_moves, negotiated_in_place, item_in_place, in_place_read, HasRoom, HasRoomOnWire, RefinesInPlace, RefinesInPlaceOnHost, RefinesInPlaceOnWire};
 
-use codes::Verb;
+use codes::{Each, Verb};
 use disposition::Waits;
 use negotiation::{End, Side, Sides};
-use reader::{Item, Phase};
+use reader::{Item, Phase, PhaseRead};
 
-// The parts after a byte, and how many bytes went to the host and to the wire. One that needs the rest of the state is not handled.
+// All that such a byte reads of the state, and all that it changes.
 #[derive(Clone, Copy)]
-pub struct InPlace {
-    pub handled: bool,
+pub struct Parts {
     pub sides: Sides,
     pub phase: Phase,
     pub waits: Waits,
-    pub host: usize,
-    pub wire: usize,
 }
 
-// A byte that wrote nothing.
-fn unwritten(handled: bool, sides: Sides, phase: Phase, waits: Waits) -> InPlace
-    ensures { result ≡ answered_in_place handled sides phase waits 0 }
-{
-    InPlace {
-        handled,
-        sides,
-        phase,
-        waits,
-        host: 0,
-        wire: 0,
-    }
+// The parts after a byte, and how many bytes went to the host and to the wire.
+#[derive(Clone, Copy)]
+pub struct InPlace {
+    pub parts: Parts,
+    pub host: usize,
+    pub wire: usize,
 }
 
 // BM's side empties its table, and that of an option about output disposition forgets its values.
 fn moves_alone(side: Side) -> bool
     ensures { result ≡ moves_alone side }
 {
-    match side {
-        Side::Echo => true,
-        Side::BulletinSga => true,
-        Side::Rcte => true,
-        Side::Macro => false,
-        Side::PrinterSga => true,
-        Side::Disposes(_) => false,
-        Side::Uncarried => true,
-    }
+    !matches!(side, Side::Macro | Side::Disposes(_))
 }
 
 // Data goes to the host, and ends every wait.
-fn data_read(sides: Sides, next: Phase, b: u8, host: &mut [u8]) -> InPlace
-    requires { RoomFor (gives_data sides next b).host host.old }
-    ensures { RefinesInPlaceOnHost (gives_data sides next b) (lent host) result }
+fn data_read(parts: Parts, next: Phase, b: u8, host: &mut [u8]) -> InPlace
+    requires { RoomFor (gives_data parts next b).host host.old }
+    ensures { RefinesInPlaceOnHost (gives_data parts next b) (lent host) result }
 {
     host[0] = b;
-    let waits = disposition::no_waits();
     InPlace {
-        handled: true,
-        sides,
-        phase: next,
-        waits,
+        parts: Parts {
+            phase: next,
+            waits: Each::all(false),
+            ..parts
+        },
         host: 1,
         wire: 0,
     }
 }
 
-// WILL, WONT, DO or DONT of an option.
-fn negotiated(
-    sides: Sides,
-    phase: Phase,
-    waits: Waits,
-    next: Phase,
-    v: Verb,
-    option: u8,
-    wire: &mut [u8],
-) -> InPlace
-    requires { RoomFor (negotiated_in_place sides phase waits next v option).wire wire.old }
-    ensures { RefinesInPlaceOnWire (negotiated_in_place sides phase waits next v option) (lent wire) result }
+// WILL, WONT, DO or DONT of an option, if its side moves alone.
+fn negotiated(parts: Parts, next: Phase, v: Verb, option: u8, wire: &mut [u8]) -> Option<InPlace>
+    requires { HasRoomOnWire (negotiated_in_place parts next v option) wire.old }
+    ensures { RefinesInPlaceOnWire (negotiated_in_place parts next v option) (lent wire) result }
 {
-    let turn = negotiation::heard_by(End::Bulletin, sides, v, option);
-    let side = turn.side;
-    if !moves_alone(side) {
-        return unwritten(false, sides, phase, waits);
+    let turn = negotiation::heard_by(End::Bulletin, parts.sides, v, option);
+    if !moves_alone(turn.side) {
+        return None;
     }
-    let q = turn.next;
-    let whose = turn.whose;
-    let reply = turn.reply;
-    let n = negotiation::put_reply(whose, reply, option, wire);
-    InPlace {
-        handled: true,
-        sides: negotiation::moved(sides, side, q),
-        phase: next,
-        waits,
+    let wire = negotiation::put_reply(turn.whose, turn.reply, option, wire);
+    Some(InPlace {
+        parts: Parts {
+            sides: negotiation::moved(parts.sides, turn.side, turn.next),
+            phase: next,
+            ..parts
+        },
         host: 0,
-        wire: n,
-    }
+        wire,
+    })
 }
 
 // What a byte completed, the phase after it being the next.
-fn item_read(
-    sides: Sides,
-    phase: Phase,
-    waits: Waits,
-    next: Phase,
-    item: Item,
-    host: &mut [u8],
-    wire: &mut [u8],
-) -> InPlace
-    requires room_for { RoomFor (item_in_place sides phase waits next item).host host.old }
-    requires room_for_2 { RoomFor (item_in_place sides phase waits next item).wire wire.old }
-    ensures { RefinesInPlace (item_in_place sides phase waits next item) (lent host) (lent wire) result }
+fn item_read(parts: Parts, read: PhaseRead, host: &mut [u8], wire: &mut [u8]) -> Option<InPlace>
+    requires { HasRoom (item_in_place parts read) host.old wire.old }
+    ensures { RefinesInPlace (item_in_place parts read) (lent host) (lent wire) result }
 {
-    match item {
-        Item::Nothing => unwritten(true, sides, next, waits),
-        Item::Data(b) => data_read(sides, next, b, host),
-        Item::Negotiated(v, option) => negotiated(sides, phase, waits, next, v, option, wire),
-        Item::BodyEnd => unwritten(false, sides, phase, waits),
-        Item::StrayCommand => unwritten(false, sides, phase, waits),
+    let next = read.phase;
+    match read.item {
+        Item::Nothing => Some(InPlace {
+            parts: Parts {
+                phase: next,
+                ..parts
+            },
+            host: 0,
+            wire: 0,
+        }),
+        Item::Data(b) => Some(data_read(parts, next, b, host)),
+        Item::Negotiated(v, option) => negotiated(parts, next, v, option, wire),
+        Item::BodyEnd | Item::StrayCommand => None,
     }
 }
 
-pub fn read(
-    sides: Sides,
-    phase: Phase,
-    waits: Waits,
-    b: u8,
-    host: &mut [u8],
-    wire: &mut [u8],
-) -> InPlace
-    requires room_for { RoomFor (in_place_read sides phase waits b).host host.old }
-    requires room_for_2 { RoomFor (in_place_read sides phase waits b).wire wire.old }
-    ensures { RefinesInPlace (in_place_read sides phase waits b) (lent host) (lent wire) result }
+// None of a byte that needs the rest of the state: nothing is written.
+pub fn read(parts: Parts, b: u8, host: &mut [u8], wire: &mut [u8]) -> Option<InPlace>
+    requires { HasRoom (in_place_read parts b) host.old wire.old }
+    ensures { RefinesInPlace (in_place_read parts b) (lent host) (lent wire) result }
 {
-    let moved = reader::phase_read(phase, b);
-    if !moved.alone {
-        return unwritten(false, sides, phase, waits);
-    }
-    let next = moved.phase;
-    let item = moved.item;
-    item_read(sides, phase, waits, next, item, host, wire)
+    let read = reader::phase_read(parts.phase, b)?;
+    item_read(parts, read, host, wire)
 }

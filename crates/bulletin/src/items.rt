@@ -7,7 +7,7 @@ ghost use Rattle.sent_macros.specs.Refinement.{view_table};
 ghost use Rattle.bulletin.specs.Refinement.{view_bulletin};
 
 use crate::Bulletin;
-use codes::{Disposition, RCTE};
+use codes::{Disposition, Each, RCTE};
 use disposition::{Handlings, ITEM_ROOM, Waits};
 use keys::Key;
 use negotiation::End;
@@ -32,12 +32,11 @@ fn put_pair(on: bool, pair: u16, out: &mut [u8]) -> usize
     requires { RoomFor (pair_bytes on pair) out.old }
     ensures { WroteAtStart (pair_bytes on pair) (lent out) result }
 {
-    if on {
-        out[0] = (pair / 256 % 256) as u8;
-        out[1] = (pair % 256) as u8;
-        return 2;
+    if !on {
+        return 0;
     }
-    0
+    out[..2].copy_from_slice(&pair.to_be_bytes());
+    2
 }
 
 // An order's class pairs, the one for break characters first.
@@ -72,35 +71,26 @@ pub fn put_order(cmd: u8, breaks: u16, sends: u16, out: &mut [u8]) -> usize
 pub fn handlings_now(s: Bulletin) -> Handlings
     ensures { result ≡ handlings_now (view_bulletin s) }
 {
-    let sides = s.sides;
-    let values = s.values;
-    disposition::handlings_in(sides, values)
+    disposition::handlings_in(s.sides, s.values)
 }
 
 // Whether output waits for an option once an item is sent.
 fn wait_after(waits: Waits, h: Handlings, k: Key, d: Disposition) -> bool
     ensures { result ≡ wait_after waits h k d }
 {
-    if disposition::wait_of(waits, d) {
-        return true;
-    }
-    if !disposition::takes_part(k, d) {
-        return false;
-    }
-    disposition::awaits(disposition::handling_of(h, d))
+    waits.of(d) || disposition::takes_part(k, d) && disposition::awaits(h.of(d))
 }
 
 // .. for each of them.
 pub fn waits_after(s: Bulletin, k: Key) -> Waits
     ensures { result ≡ waits_after (view_bulletin s) k }
 {
-    let waits = s.waits;
     let h = handlings_now(s);
-    Waits {
-        naocrd: wait_after(waits, h, k, Disposition::Naocrd),
-        naolfd: wait_after(waits, h, k, Disposition::Naolfd),
-        naoffd: wait_after(waits, h, k, Disposition::Naoffd),
-        naohtd: wait_after(waits, h, k, Disposition::Naohtd),
+    Each {
+        naocrd: wait_after(s.waits, h, k, Disposition::Naocrd),
+        naolfd: wait_after(s.waits, h, k, Disposition::Naolfd),
+        naoffd: wait_after(s.waits, h, k, Disposition::Naoffd),
+        naohtd: wait_after(s.waits, h, k, Disposition::Naohtd),
     }
 }
 
@@ -108,11 +98,11 @@ pub fn waits_after(s: Bulletin, k: Key) -> Waits
 fn table_now(s: Bulletin) -> SendingTable
     ensures { view_table result ≡ definitions_now (view_bulletin s) }
 {
-    let sides = s.sides;
-    if negotiation::macros_in_force(End::Bulletin, sides) {
-        return s.table;
+    if negotiation::macros_in_force(End::Bulletin, s.sides) {
+        s.table
+    } else {
+        sent_macros::none()
     }
-    sent_macros::none()
 }
 
 // The bytes of an item: its data, byte by byte; a Command as it is.
@@ -123,9 +113,7 @@ pub fn put_item(s: Bulletin, k: Key, wire: &mut [u8]) -> usize
     if keys::is_command(k) {
         return wire::put_key(k, wire);
     }
-    let handlings = handlings_now(s);
-    let table = table_now(s);
     let mut data = [0u8; ITEM_ROOM];
-    let n = disposition::put_item(handlings, k, &mut data);
-    sent_macros::put_data(table, &data[..n], wire)
+    let n = disposition::put_item(handlings_now(s), k, &mut data);
+    sent_macros::put_data(table_now(s), &data[..n], wire)
 }

@@ -1,6 +1,10 @@
 // The bulletin end: the serving host. One state by value, and its calls.
 #![tactic(auto)]
 
+ghost use Rattle.std.specs.Prelude.{◌≡◌};
+ghost use Rattle.codes.specs.declared.Note.TheVariants.{Clear};
+ghost use Rattle.bulletin.specs.Refinement.{step_of};
+
 use codes::{Code, Note};
 use disposition::{AllValues, Waits};
 use issues::Issues;
@@ -36,6 +40,30 @@ pub struct Step {
     pub host: usize,
     pub wire: usize,
     pub state: Bulletin,
+}
+
+impl Step {
+    // Nothing for the host, so many bytes on the wire, and no note.
+    fn sends(state: Bulletin, wire: usize) -> Step
+        ensures { result ≡ step_of Clear wire state }
+    {
+        Step {
+            note: Note::Clear,
+            host: 0,
+            wire,
+            state,
+        }
+    }
+
+    // A note, and nothing else.
+    fn notes(note: Note, state: Bulletin) -> Step
+        ensures { result ≡ step_of note 0 state }
+    {
+        Step {
+            note,
+            ..Step::sends(state, 0)
+        }
+    }
 }
 
 // A call's answer.

@@ -4,7 +4,7 @@ ghost use Rattle.bulletin.specs.Network.{data_read, item_read, network_read};
 ghost use Rattle.bulletin.specs.Refinement.{view_bulletin, RefinesStep, RefinesStepOnHost};
 
 use crate::{Bulletin, Step, body, moves};
-use codes::Note;
+use codes::{Each, Note};
 use reader::Item;
 
 // Data goes to the host, and ends every wait.
@@ -13,14 +13,13 @@ fn data_read(s: Bulletin, b: u8, host: &mut [u8]) -> Step
     ensures { RefinesStepOnHost (data_read (view_bulletin s) b) s (lent host) result }
 {
     host[0] = b;
-    let waits = disposition::no_waits();
-    let mut t = s;
-    t.waits = waits;
+    let ready = Bulletin {
+        waits: Each::all(false),
+        ..s
+    };
     Step {
-        note: Note::Clear,
         host: 1,
-        wire: 0,
-        state: t,
+        ..Step::sends(ready, 0)
     }
 }
 
@@ -31,11 +30,11 @@ fn item_read(s: Bulletin, item: Item, host: &mut [u8], wire: &mut [u8]) -> Step
     ensures { RefinesStep (item_read (view_bulletin s) item) s (lent host) (lent wire) result }
 {
     match item {
-        Item::Nothing => moves::step(s, Note::Clear, 0),
+        Item::Nothing => Step::sends(s, 0),
         Item::Data(b) => data_read(s, b, host),
         Item::Negotiated(v, option) => moves::negotiated(s, v, option, wire),
         Item::BodyEnd => body::body_read(s, wire),
-        Item::StrayCommand => moves::step(s, Note::Stray, 0),
+        Item::StrayCommand => Step::notes(Note::Stray, s),
     }
 }
 
@@ -44,11 +43,10 @@ pub fn network_read(s: Bulletin, b: u8, host: &mut [u8], wire: &mut [u8]) -> Ste
     requires room_for_2 { RoomFor (network_read (view_bulletin s) b).wire wire.old }
     ensures { RefinesStep (network_read (view_bulletin s) b) s (lent host) (lent wire) result }
 {
-    let old = s.reader;
-    let read = reader::read_byte(old, b);
-    let item = read.item;
-    let next = read.reader;
-    let mut t = s;
-    t.reader = next;
-    item_read(t, item, host, wire)
+    let read = reader::read_byte(s.reader, b);
+    let t = Bulletin {
+        reader: read.reader,
+        ..s
+    };
+    item_read(t, read.item, host, wire)
 }

@@ -1,11 +1,49 @@
-// Reads network bytes one after the other; those of a plain stretch are taken together.
+// The bulletin end reads runs of network bytes.
 ghost use Rattle.std.specs.Prelude.{◌≡◌};
 ghost use Rattle.lists.specs.Buffers.{lent};
-ghost use Rattle.bulletin.specs.Refinement.{view_bulletin, WholeBulletin};
-ghost use Rattle.bulletin.specs.RefinementOfRuns.{RefinesRun, begun_run, refused_run, ran_answer};
+ghost use Rattle.bulletin.specs.State.{BulletinState, Effect, CallEffect};
+ghost use Rattle.bulletin.specs.NetworkRun.{bulletin_byte};
+ghost use Rattle.bulletin.specs.NetworkEnd.{lawful, Keeps};
+ghost use Rattle.bulletin.specs.Refinement.{view_bulletin};
+ghost use Rattle.bulletin.specs.RefinementOfRuns.{RefinesRun, begun_run, refused_run};
 
 use crate::{Bulletin, RunAnswer, network, stretches};
 use codes::{Code, Note};
+use reader::{ByteOutcome, ReadsNetwork};
+
+impl ReadsNetwork for Bulletin {
+    ghost State = { BulletinState };
+
+    ghost Effect = { Effect };
+
+    ghost Answer = { CallEffect };
+
+    ghost rule = { bulletin_byte };
+
+    ghost laws = { lawful };
+
+    ghost view = { view_bulletin };
+
+    ghost Kept = { Keeps };
+
+    ghost still = { λ s. record { clean = λ k. k; whole = λ k. k } };
+
+    ghost onward = { λ r s t f g. record { clean = λ k. g.clean (f.clean k); whole = λ k. g.whole (f.whole k) } };
+
+    fn plain_front(&self, bytes: &[u8]) -> usize {
+        stretches::data_stretch(self.reader.phase, self.waits, bytes)
+    }
+
+    fn read(&mut self, b: u8, host: &mut [u8], wire: &mut [u8]) -> ByteOutcome {
+        let step = network::network_read(*self, b, host, wire);
+        *self = step.state;
+        ByteOutcome {
+            note: step.note,
+            first: step.host,
+            wire: step.wire,
+        }
+    }
+}
 
 // A refusal: the state that was given, and nothing written.
 pub fn refused(s: Bulletin, code: Code) -> RunAnswer
@@ -21,52 +59,18 @@ pub fn refused(s: Bulletin, code: Code) -> RunAnswer
     }
 }
 
-fn stopped(s: Bulletin, note: Note, taken: usize, host: usize, wire: usize) -> RunAnswer
-    ensures { (result ≡ ran_answer s note taken host wire) × WholeBulletin s }
-{
-    RunAnswer {
-        code: Code::Done,
-        note,
-        taken,
-        host,
-        wire,
-        state: s,
-    }
-}
-
 // A run whose first byte has room.
 pub fn read_bytes(s: Bulletin, bytes: &[u8], host: &mut [u8], wire: &mut [u8]) -> RunAnswer
     ensures { RefinesRun (begun_run (view_bulletin s) bytes.now) s (lent host) (lent wire) result }
 {
     let mut state = s;
-    let mut i: usize = 0;
-    let mut p: usize = 0;
-    let mut w: usize = 0;
-    while i < bytes.len() {
-        let left = host.len() - p;
-        if codes::no_room(left, wire.len() - w) {
-            return stopped(state, Note::Clear, i, p, w);
-        }
-        let reading = state.reader;
-        let phase = reading.phase;
-        let end = reader::reach(i, bytes.len(), left);
-        let n = stretches::data_stretch(phase, state.waits, &bytes[i..end]);
-        if n > 0 {
-            let next = i + n;
-            let copied = wire::put_bytes(&bytes[i..next], &mut host[p..]);
-            p += copied;
-            i = next;
-            continue;
-        }
-        let step = network::network_read(state, bytes[i], &mut host[p..], &mut wire[w..]);
-        p += step.host;
-        w += step.wire;
-        i += 1;
-        state = step.state;
-        let note = step.note;
-        if !codes::is_clear(note) {
-            return stopped(state, note, i, p, w);
-        }
+    let ran = reader::read_bytes(&mut state, bytes, host, wire);
+    RunAnswer {
+        code: Code::Done,
+        note: ran.note,
+        taken: ran.taken,
+        host: ran.first,
+        wire: ran.wire,
+        state,
     }
-    stopped(state, Note::Clear, i, p, w)
 }

@@ -7,27 +7,20 @@ use disposition::Waits;
 use reader::Phase;
 
 // A byte that ends a wait changes the state, and is not plain.
+#[tactic(auto, unfolding(crate::specs::Stretches::data_stretch))]
 pub fn data_stretch(phase: Phase, waits: Waits, bytes: &[u8]) -> usize
     ensures { result ≡ data_stretch phase waits bytes.now }
 {
-    if !reader::is_between(phase) {
-        return 0;
+    if reader::is_between(phase) && !disposition::is_waiting(waits) {
+        reader::text_front(bytes)
+    } else {
+        0
     }
-    if disposition::is_waiting(waits) {
-        return 0;
-    }
-    reader::text_front(bytes)
 }
 
 // One of them by itself.
 pub fn is_plain(phase: Phase, waits: Waits, b: u8) -> bool
     ensures { result ≡ is_plain_byte phase waits b }
 {
-    if !reader::is_between(phase) {
-        return false;
-    }
-    if disposition::is_waiting(waits) {
-        return false;
-    }
-    b != IAC
+    b != IAC && reader::is_between(phase) && !disposition::is_waiting(waits)
 }

@@ -6,9 +6,9 @@ use borrow.Author.Tests.{eqb-true, eqb-false}
 use lib.Dec.{eqb}
 use Rattle.codes.specs.declared.Disposition.{Disposition}
 use Rattle.codes.specs.declared.Disposition.TheVariants.{Naocrd, Naolfd, Naoffd, Naohtd}
-use Rattle.codes.specs.declared.MaybeDisposition.{MaybeDisposition}
-use Rattle.codes.specs.declared.MaybeDisposition.TheVariants.{Some, None}
-use Rattle.codes.specs.Dispositions.{option_number, Each, entry_of, with_entry, for_each, disposition_numbered, of_disposition}
+use Rattle.std.specs.Prelude.{Option, Some, None}
+use Rattle.codes.specs.declared.Each.{Each}
+use Rattle.codes.specs.Dispositions.{option_number, entry_of, with_entry, for_each, disposition_numbered, of_disposition}
 
 module _ {A : Type 0} (r : Each A) (x : A) where
   pub entry_same : (d : Disposition) → entry_of (with_entry r d x) d ≡ x
@@ -56,11 +56,11 @@ same_or_other d e = go (eqb (option_number d) (option_number e)) refl
     go : (b : Bool) → eqb (option_number d) (option_number e) ≡ b → (d ≡ e) ⊎ (d ≡ e → ⊥)
     go true h =
         let one : Some d ≡ Some e = sym (numbered_again d) ∙ ap disposition_numbered (eqb-true _ _ h) ∙ numbered_again e in
-        inl (ap (λ (m : MaybeDisposition). of_disposition d (λ x. x) m) one)
+        inl (ap (λ (m : Option Disposition). of_disposition d (λ x. x) m) one)
     go false h = inr (λ p. eqb-false _ _ h (ap option_number p))
 
 -- what holds where an option was found, whichever it is, and where none was
 pub found_cases : {A : Type 0} (P : A → Type 0) {none : A} {some : Disposition → A} → P none → ((d : Disposition) → P (some d))
-    → (found : MaybeDisposition) → P (of_disposition none some found)
+    → (found : Option Disposition) → P (of_disposition none some found)
 found_cases P n s None = n
 found_cases P n s (Some d) = s d

@@ -1,5 +1,5 @@
 -- The codes and notes of an answer, with their numbers, and how a call's refusals are ordered.
-use Rattle.std.specs.Prelude.{Bool, ◌||◌, cond, List, [], ◌∷◌, ℕ, ltb, eqb}
+use Rattle.std.specs.Prelude.{Bool, ◌||◌, cond, List, [], ◌∷◌, ℕ, ltb, eqb, Result, Ok, Err}
 use Rattle.codes.specs.declared.Code.{Code}
 use Rattle.codes.specs.declared.Code.TheVariants.{Done, NoRoom, QueueFull, BadCommand, NotCarried, AlreadySo, NotInForce, BadMacroByte, TooLong, Unanswered, NoText, EchoAgainstRcte, BadValue, OutputWaits, IssueDiffers}
 use Rattle.codes.specs.declared.Note.{Note}
@@ -74,3 +74,8 @@ refusal_of (g ∷ gs) = cond g.holds g.code (refusal_of gs)
 unfoldable pub guarded : {A : Type 0} → List Guard → (Code → A) → A → A
 guarded [] refused done = done
 guarded (g ∷ gs) refused done = cond g.holds (refused g.code) (guarded gs refused done)
+
+-- whether a call may go on: if not, the code of the first guard that holds
+unfoldable pub allowed : List Guard → Result (Unit {0}) Code
+allowed [] = Ok tt
+allowed (g ∷ gs) = cond g.holds (Err g.code) (allowed gs)

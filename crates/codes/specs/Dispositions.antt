@@ -1,9 +1,8 @@
 -- The four options about output disposition, their numbers, how one is found by a number of its own, and what has an entry for each.
-use Rattle.std.specs.Prelude.{cond, List, [], ◌∷◌, ℕ, eqb}
+use Rattle.std.specs.Prelude.{cond, List, [], ◌∷◌, ℕ, eqb, Option, Some, None}
 use Rattle.codes.specs.declared.Disposition.{Disposition}
 use Rattle.codes.specs.declared.Disposition.TheVariants.{Naocrd, Naolfd, Naoffd, Naohtd}
-use Rattle.codes.specs.declared.MaybeDisposition.{MaybeDisposition}
-use Rattle.codes.specs.declared.MaybeDisposition.TheVariants.{Some, None}
+use Rattle.codes.specs.declared.Each.{Each}
 use Rattle.codes.specs.Telnet.{NAOCRD, NAOLFD, NAOFFD, NAOHTD}
 
 -- all of them, in the order in which they are told
@@ -17,12 +16,6 @@ option_number Naoffd = NAOFFD
 option_number Naohtd = NAOHTD
 
 -- an entry for each option, looked up and replaced by the option
-pub record Each (A : Type 0) : Type 0 where
-  pub naocrd : A
-  pub naolfd : A
-  pub naoffd : A
-  pub naohtd : A
-
 abbrev pub entry_of : {A : Type 0} → Each A → Disposition → A
 entry_of r Naocrd = r.naocrd
 entry_of r Naolfd = r.naolfd
@@ -39,17 +32,17 @@ abbrev pub for_each : {A : Type 0} → (Disposition → A) → Each A
 for_each f = record { naocrd = f Naocrd; naolfd = f Naolfd; naoffd = f Naoffd; naohtd = f Naohtd }
 
 -- the option that a number belongs to, each having one
-abbrev pub found_by : (Disposition → ℕ) → ℕ → MaybeDisposition
+abbrev pub found_by : (Disposition → ℕ) → ℕ → Option Disposition
 found_by number n =
     cond (eqb n (number Naocrd)) (Some Naocrd)
     (cond (eqb n (number Naolfd)) (Some Naolfd)
     (cond (eqb n (number Naoffd)) (Some Naoffd)
     (cond (eqb n (number Naohtd)) (Some Naohtd) None)))
 
-unfoldable pub disposition_numbered : ℕ → MaybeDisposition
+unfoldable pub disposition_numbered : ℕ → Option Disposition
 disposition_numbered option = found_by option_number option
 
 -- what is made of one that was found, and of none
-abbrev pub of_disposition : {A : Type 0} → A → (Disposition → A) → MaybeDisposition → A
+abbrev pub of_disposition : {A : Type 0} → A → (Disposition → A) → Option Disposition → A
 of_disposition none some None = none
 of_disposition none some (Some d) = some d

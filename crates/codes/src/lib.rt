@@ -4,7 +4,7 @@
 ghost use Rattle.std.specs.Prelude.{◌≡◌};
 ghost use Rattle.codes.specs.Answers.{code_number, note_number, first_note, no_room, no_wire, is_done, is_clear};
 ghost use Rattle.codes.specs.Telnet.{verb_number, whose_of, enables, plain_command, other_side};
-ghost use Rattle.codes.specs.Dispositions.{option_number, disposition_numbered};
+ghost use Rattle.codes.specs.Dispositions.{option_number, disposition_numbered, entry_of, with_entry, for_each};
 
 // The commands of RFC 854 that are told apart; NOP to GA may be keys.
 pub const SE: u8 = 240;
@@ -77,7 +77,7 @@ pub const PAPER_ROOM: usize = 1024;
 pub const WIRE_ROOM: usize = 4096;
 
 // Every code but Done is a refusal: the state and the lent bytes do not change.
-#[derive(Clone, Copy)]
+#[derive(Clone, Copy, PartialEq, Eq)]
 pub enum Code {
     Done,
     NoRoom,
@@ -97,7 +97,7 @@ pub enum Code {
 }
 
 // What a network byte's answer says of a body or a command that was not acted on.
-#[derive(Clone, Copy)]
+#[derive(Clone, Copy, PartialEq, Eq)]
 pub enum Note {
     Clear,
     Unreadable,
@@ -107,7 +107,7 @@ pub enum Note {
 }
 
 // The four negotiation commands of RFC 854.
-#[derive(Clone, Copy)]
+#[derive(Clone, Copy, PartialEq, Eq)]
 pub enum Verb {
     Will,
     Wont,
@@ -116,14 +116,14 @@ pub enum Verb {
 }
 
 // Whose side of an option: the other end's (WILL, WONT are received of it) or this end's (DO, DONT are).
-#[derive(Clone, Copy)]
+#[derive(Clone, Copy, PartialEq, Eq)]
 pub enum Whose {
     His,
     Ours,
 }
 
 // The options about output disposition: of carriage returns, line feeds, form feeds and horizontal tabs.
-#[derive(Clone, Copy)]
+#[derive(Clone, Copy, PartialEq, Eq)]
 pub enum Disposition {
     Naocrd,
     Naolfd,
@@ -131,45 +131,128 @@ pub enum Disposition {
     Naohtd,
 }
 
-// The one of them that a number or a character belongs to, if any.
+// An entry for each of them.
 #[derive(Clone, Copy)]
-pub enum MaybeDisposition {
-    Some(Disposition),
-    None,
+pub struct Each<T> {
+    pub naocrd: T,
+    pub naolfd: T,
+    pub naoffd: T,
+    pub naohtd: T,
 }
 
-// The number that a code is known by.
-pub fn code_number(c: Code) -> u8
-    ensures { result ≡ code_number c }
-{
-    match c {
-        Code::Done => 0,
-        Code::NoRoom => 1,
-        Code::QueueFull => 2,
-        Code::BadCommand => 3,
-        Code::NotCarried => 4,
-        Code::AlreadySo => 5,
-        Code::NotInForce => 6,
-        Code::BadMacroByte => 7,
-        Code::TooLong => 8,
-        Code::Unanswered => 9,
-        Code::NoText => 10,
-        Code::EchoAgainstRcte => 11,
-        Code::BadValue => 12,
-        Code::OutputWaits => 13,
-        Code::IssueDiffers => 14,
+impl<T: Copy> Each<T> {
+    // The same for all.
+    pub fn all(x: T) -> Each<T>
+        ensures { result ≡ for_each (λ d. x) }
+    {
+        Each {
+            naocrd: x,
+            naolfd: x,
+            naoffd: x,
+            naohtd: x,
+        }
+    }
+
+    pub fn of(self, d: Disposition) -> T
+        ensures { result ≡ entry_of self d }
+    {
+        match d {
+            Disposition::Naocrd => self.naocrd,
+            Disposition::Naolfd => self.naolfd,
+            Disposition::Naoffd => self.naoffd,
+            Disposition::Naohtd => self.naohtd,
+        }
+    }
+
+    pub fn with(self, d: Disposition, x: T) -> Each<T>
+        ensures { result ≡ with_entry self d x }
+    {
+        match d {
+            Disposition::Naocrd => Each { naocrd: x, ..self },
+            Disposition::Naolfd => Each { naolfd: x, ..self },
+            Disposition::Naoffd => Each { naoffd: x, ..self },
+            Disposition::Naohtd => Each { naohtd: x, ..self },
+        }
     }
 }
 
-pub fn note_number(n: Note) -> u8
-    ensures { result ≡ note_number n }
+// The number that a code is known by.
+impl From<Code> for u8 {
+    ghost from_gives = { λ c n. n ≡ code_number c };
+
+    fn from(c: Code) -> u8 {
+        match c {
+            Code::Done => 0,
+            Code::NoRoom => 1,
+            Code::QueueFull => 2,
+            Code::BadCommand => 3,
+            Code::NotCarried => 4,
+            Code::AlreadySo => 5,
+            Code::NotInForce => 6,
+            Code::BadMacroByte => 7,
+            Code::TooLong => 8,
+            Code::Unanswered => 9,
+            Code::NoText => 10,
+            Code::EchoAgainstRcte => 11,
+            Code::BadValue => 12,
+            Code::OutputWaits => 13,
+            Code::IssueDiffers => 14,
+        }
+    }
+}
+
+impl From<Note> for u8 {
+    ghost from_gives = { λ m n. n ≡ note_number m };
+
+    fn from(m: Note) -> u8 {
+        match m {
+            Note::Clear => 0,
+            Note::Unreadable => 1,
+            Note::Inactive => 2,
+            Note::OtherOption => 3,
+            Note::Stray => 4,
+        }
+    }
+}
+
+// The byte behind IAC.
+impl From<Verb> for u8 {
+    ghost from_gives = { λ v n. n ≡ verb_number v };
+
+    fn from(v: Verb) -> u8 {
+        match v {
+            Verb::Will => WILL,
+            Verb::Wont => WONT,
+            Verb::Do => DO,
+            Verb::Dont => DONT,
+        }
+    }
+}
+
+impl From<Disposition> for u8 {
+    ghost from_gives = { λ d n. n ≡ option_number d };
+
+    fn from(d: Disposition) -> u8 {
+        match d {
+            Disposition::Naocrd => NAOCRD,
+            Disposition::Naolfd => NAOLFD,
+            Disposition::Naoffd => NAOFFD,
+            Disposition::Naohtd => NAOHTD,
+        }
+    }
+}
+
+// The one of them that a number belongs to, if any.
+#[tactic(auto, unfolding(crate::specs::Dispositions::disposition_numbered))]
+pub fn disposition_numbered(option: u8) -> Option<Disposition>
+    ensures { result ≡ disposition_numbered option }
 {
-    match n {
-        Note::Clear => 0,
-        Note::Unreadable => 1,
-        Note::Inactive => 2,
-        Note::OtherOption => 3,
-        Note::Stray => 4,
+    match option {
+        NAOCRD => Some(Disposition::Naocrd),
+        NAOLFD => Some(Disposition::Naolfd),
+        NAOFFD => Some(Disposition::Naoffd),
+        NAOHTD => Some(Disposition::Naohtd),
+        _ => None,
     }
 }
 
@@ -177,23 +260,14 @@ pub fn note_number(n: Note) -> u8
 pub fn first_note(a: Note, b: Note) -> Note
     ensures { result ≡ first_note a b }
 {
-    match a {
-        Note::Clear => b,
-        Note::Unreadable => Note::Unreadable,
-        Note::Inactive => Note::Inactive,
-        Note::OtherOption => Note::OtherOption,
-        Note::Stray => Note::Stray,
-    }
+    if a == Note::Clear { b } else { a }
 }
 
 // Code 1: a lent buffer that is too small.
 pub fn no_room(paper: usize, wire: usize) -> bool
     ensures { result ≡ no_room paper wire }
 {
-    if paper < PAPER_ROOM {
-        return true;
-    }
-    wire < WIRE_ROOM
+    paper < PAPER_ROOM || wire < WIRE_ROOM
 }
 
 pub fn no_wire(wire: usize) -> bool
@@ -205,25 +279,13 @@ pub fn no_wire(wire: usize) -> bool
 pub fn is_done(c: Code) -> bool
     ensures { result ≡ is_done c }
 {
-    code_number(c) == 0
+    c == Code::Done
 }
 
 pub fn is_clear(n: Note) -> bool
     ensures { result ≡ is_clear n }
 {
-    note_number(n) == 0
-}
-
-// The byte behind IAC.
-pub fn verb_number(v: Verb) -> u8
-    ensures { result ≡ verb_number v }
-{
-    match v {
-        Verb::Will => WILL,
-        Verb::Wont => WONT,
-        Verb::Do => DO,
-        Verb::Dont => DONT,
-    }
+    n == Note::Clear
 }
 
 // The side that a verb received is about.
@@ -231,10 +293,8 @@ pub fn whose_of(v: Verb) -> Whose
     ensures { result ≡ whose_of v }
 {
     match v {
-        Verb::Will => Whose::His,
-        Verb::Wont => Whose::His,
-        Verb::Do => Whose::Ours,
-        Verb::Dont => Whose::Ours,
+        Verb::Will | Verb::Wont => Whose::His,
+        Verb::Do | Verb::Dont => Whose::Ours,
     }
 }
 
@@ -242,12 +302,7 @@ pub fn whose_of(v: Verb) -> Whose
 pub fn enables(v: Verb) -> bool
     ensures { result ≡ enables v }
 {
-    match v {
-        Verb::Will => true,
-        Verb::Wont => false,
-        Verb::Do => true,
-        Verb::Dont => false,
-    }
+    matches!(v, Verb::Will | Verb::Do)
 }
 
 // The side as the end across the line sees it.
@@ -264,29 +319,5 @@ pub fn other_side(w: Whose) -> Whose
 pub fn plain_command(c: u8) -> bool
     ensures { result ≡ plain_command c }
 {
-    c >= NOP && c <= GA
-}
-
-pub fn option_number(d: Disposition) -> u8
-    ensures { result ≡ option_number d }
-{
-    match d {
-        Disposition::Naocrd => NAOCRD,
-        Disposition::Naolfd => NAOLFD,
-        Disposition::Naoffd => NAOFFD,
-        Disposition::Naohtd => NAOHTD,
-    }
-}
-
-#[tactic(auto, unfolding(crate::specs::Dispositions::disposition_numbered))]
-pub fn disposition_numbered(option: u8) -> MaybeDisposition
-    ensures { result ≡ disposition_numbered option }
-{
-    match option {
-        NAOCRD => MaybeDisposition::Some(Disposition::Naocrd),
-        NAOLFD => MaybeDisposition::Some(Disposition::Naolfd),
-        NAOFFD => MaybeDisposition::Some(Disposition::Naoffd),
-        NAOHTD => MaybeDisposition::Some(Disposition::Naohtd),
-        _ => MaybeDisposition::None,
-    }
+    (NOP..=GA).contains(&c)
 }

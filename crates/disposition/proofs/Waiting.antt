@@ -1,8 +1,7 @@
 -- Output does not wait just if it waits for no option.
 use mathlib.Core.Path.{◌≡◌, refl}
 use mathlib.Core.Bool.{Bool, true, false, ◌||◌, true≢false}
-use Rattle.disposition.specs.declared.Waits.{Waits}
-use Rattle.disposition.specs.ByOption.{no_waits, is_waiting}
+use Rattle.disposition.specs.ByOption.{Waits, no_waits, is_waiting}
 
 pub none_waits : (w : Waits) → is_waiting w ≡ false → w ≡ no_waits
 unfolding is_waiting

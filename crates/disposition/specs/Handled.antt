@@ -10,11 +10,9 @@ use Rattle.negotiation.specs.declared.Sides.{Sides}
 use Rattle.negotiation.specs.Carried.{disposition_in_force}
 use Rattle.bodies.specs.ValueBodies.{is_bad_value}
 use Rattle.disposition.specs.declared.Values.{Values}
-use Rattle.disposition.specs.declared.AllValues.{AllValues}
 use Rattle.disposition.specs.declared.Handling.{Handling}
 use Rattle.disposition.specs.declared.Handling.TheVariants.{Sender, Receiver}
-use Rattle.disposition.specs.declared.Handlings.{Handlings}
-use Rattle.disposition.specs.ByOption.{values_of, handlings_from, handling_of}
+use Rattle.disposition.specs.ByOption.{AllValues, Handlings, values_of, handling_of}
 
 -- with DS 0 the sender handles, as DR says; otherwise the receiver does, as DS says
 unfoldable pub handling : Values → Handling
@@ -29,7 +27,7 @@ abbrev pub handling_in : Sides → AllValues → Disposition → Handling
 handling_in sides v d = handling_while (disposition_in_force sides d) (values_of v d)
 
 abbrev pub handlings_in : Sides → AllValues → Handlings
-handlings_in sides v = handlings_from (for_each (handling_in sides v))
+handlings_in sides v = for_each (handling_in sides v)
 
 -- the sender handles by just this value
 abbrev pub handled_by : ℕ → Handling → Bool

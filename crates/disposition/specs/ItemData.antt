@@ -1,17 +1,15 @@
 -- What a sender that handles a character makes of it, and so the data of a text item.
-use Rattle.std.specs.Prelude.{Bool, true, false, cond, List, [], ◌∷◌, ◌++◌, ℕ, ◌+◌, ◌≤◌, length, replicate, eqb}
+use Rattle.std.specs.Prelude.{Bool, true, false, cond, List, [], ◌∷◌, ◌++◌, ℕ, ◌+◌, ◌≤◌, length, replicate, eqb, Option}
 use Rattle.lists.specs.Choice.{between}
 use Rattle.codes.specs.Telnet.{NUL, HT, LF, FF, CR, SPACE}
 use Rattle.codes.specs.Dispositions.{found_by, of_disposition}
 use Rattle.codes.specs.declared.Disposition.{Disposition}
 use Rattle.codes.specs.declared.Disposition.TheVariants.{Naocrd, Naolfd, Naoffd, Naohtd}
-use Rattle.codes.specs.declared.MaybeDisposition.{MaybeDisposition}
 use Rattle.keys.specs.declared.Key.{Key}
 use Rattle.keys.specs.declared.Key.TheVariants.{Char, Line, Command}
 use Rattle.disposition.specs.declared.Handling.{Handling}
 use Rattle.disposition.specs.declared.Handling.TheVariants.{Sender, Receiver}
-use Rattle.disposition.specs.declared.Handlings.{Handlings}
-use Rattle.disposition.specs.ByOption.{handling_of}
+use Rattle.disposition.specs.ByOption.{Handlings, handling_of}
 use Rattle.disposition.specs.Handled.{handled_by}
 
 -- what a value asks of the end that handles: so many NULs, up to the most; to send something else instead of the character; to drop
@@ -35,7 +33,7 @@ character_of Naolfd = LF
 character_of Naoffd = FF
 character_of Naohtd = HT
 
-unfoldable pub disposition_of : ℕ → MaybeDisposition
+unfoldable pub disposition_of : ℕ → Option Disposition
 disposition_of b = found_by character_of b
 
 -- its data where nothing is done about it: behind a carriage return stands NUL

@@ -1,22 +1,21 @@
 // Who handles the character of an option, and by which value; the values that the two ends suggest.
 ghost use Rattle.std.specs.Prelude.{◌≡◌};
 ghost use Rattle.lists.specs.Buffers.{lent, WroteAtStart, RoomFor};
-ghost use Rattle.codes.specs.Answers.{refusal_of};
+ghost use Rattle.codes.specs.Answers.{allowed};
 ghost use Rattle.disposition.specs.Handled.{handling, handling_while, handling_in, handlings_in, handled_by, report_of, suggestion, suggest_guards};
 
 use crate::by_option::UNSPOKEN_DS;
-use crate::{AllValues, Handling, Handlings, Values, by_option};
-use codes::{Code, DR, DS, Disposition};
+use crate::{AllValues, Handling, Handlings, Values};
+use codes::{Code, DR, DS, Disposition, Each};
 use negotiation::Sides;
 
+#[tactic(auto, unfolding(crate::specs::Handled::handling))]
 pub fn handling_by(v: Values) -> Handling
     ensures { result ≡ handling v }
 {
-    let ds = v.ds;
-    if ds == 0 {
-        Handling::Sender(v.dr)
-    } else {
-        Handling::Receiver(ds)
+    match v.ds {
+        0 => Handling::Sender(v.dr),
+        ds => Handling::Receiver(ds),
     }
 }
 
@@ -25,32 +24,28 @@ fn handling_while(on: bool, v: Values) -> Handling
     ensures { result ≡ handling_while on v }
 {
     if on {
-        return handling_by(v);
+        handling_by(v)
+    } else {
+        Handling::Receiver(UNSPOKEN_DS)
     }
-    Handling::Receiver(UNSPOKEN_DS)
 }
 
 // Of one option, as an end has it.
 pub fn handling_in(sides: Sides, v: AllValues, d: Disposition) -> Handling
     ensures { result ≡ handling_in sides v d }
 {
-    let on = negotiation::disposition_in_force(sides, d);
-    handling_while(on, by_option::values_of(v, d))
+    handling_while(negotiation::disposition_in_force(sides, d), v.of(d))
 }
 
 // Of all four.
 pub fn handlings_in(sides: Sides, v: AllValues) -> Handlings
     ensures { result ≡ handlings_in sides v }
 {
-    let naocrd = handling_in(sides, v, Disposition::Naocrd);
-    let naolfd = handling_in(sides, v, Disposition::Naolfd);
-    let naoffd = handling_in(sides, v, Disposition::Naoffd);
-    let naohtd = handling_in(sides, v, Disposition::Naohtd);
-    Handlings {
-        naocrd,
-        naolfd,
-        naoffd,
-        naohtd,
+    Each {
+        naocrd: handling_in(sides, v, Disposition::Naocrd),
+        naolfd: handling_in(sides, v, Disposition::Naolfd),
+        naoffd: handling_in(sides, v, Disposition::Naoffd),
+        naohtd: handling_in(sides, v, Disposition::Naohtd),
     }
 }
 
@@ -58,13 +53,10 @@ pub fn handlings_in(sides: Sides, v: AllValues) -> Handlings
 pub fn handled_by(value: u8, h: Handling) -> bool
     ensures { result ≡ handled_by value h }
 {
-    match h {
-        Handling::Sender(n) => n == value,
-        Handling::Receiver(_) => false,
-    }
+    matches!(h, Handling::Sender(n) if n == value)
 }
 
-// A report in numbers: who handles, as DR and DS are numbered ..
+// A report in the numbers that the C interface gives: who handles, as DR and DS are numbered ..
 pub fn handler_number(h: Handling) -> u8
     ensures { result ≡ (report_of h).who }
 {
@@ -79,8 +71,7 @@ pub fn handling_value(h: Handling) -> u8
     ensures { result ≡ (report_of h).value }
 {
     match h {
-        Handling::Sender(n) => n,
-        Handling::Receiver(n) => n,
+        Handling::Sender(n) | Handling::Receiver(n) => n,
     }
 }
 
@@ -89,23 +80,22 @@ pub fn put_suggestion(d: Disposition, who: u8, v: u8, out: &mut [u8]) -> usize
     requires { RoomFor (suggestion d who v) out.old }
     ensures { WroteAtStart (suggestion d who v) (lent out) result }
 {
-    let body = [codes::option_number(d), who, v];
-    wire::put_frame(&body, out)
+    wire::put_frame(&[u8::from(d), who, v], out)
 }
 
-// The refusals of a suggestion behind codes 1 and 4, in their order; own is the value that counts for this end. Done: none.
-pub fn suggest_refusal(d: Disposition, on: bool, own: u8, v: u8) -> Code
-    ensures { result ≡ refusal_of (suggest_guards d on own v) }
+// The first refusal of a suggestion behind codes 1 and 4, if any; own is the value that counts for this end.
+#[tactic(auto, unfolding(codes::specs::Answers::allowed))]
+pub fn suggest_refusal(d: Disposition, on: bool, own: u8, v: u8) -> Result<(), Code>
+    ensures { result ≡ allowed (suggest_guards d on own v) }
 {
     if !on {
-        return Code::NotInForce;
+        return Err(Code::NotInForce);
     }
     if bodies::bad_value(d, v) {
-        return Code::BadValue;
+        return Err(Code::BadValue);
     }
     if v == own {
-        Code::AlreadySo
-    } else {
-        Code::Done
+        return Err(Code::AlreadySo);
     }
+    Ok(())
 }

@@ -1,5 +1,5 @@
 // The data of a text item, as the sender handles the characters that options are about.
-ghost use Rattle.std.specs.Prelude.{◌≡◌, [], ◌∷◌};
+ghost use Rattle.std.specs.Prelude.{◌≡◌};
 ghost use Rattle.lists.specs.Buffers.{lent, WroteAtStart, RoomFor};
 ghost use Rattle.keys.specs.declared.Key.TheVariants.{Char};
 ghost use Rattle.disposition.specs.ItemData.{
@@ -17,8 +17,8 @@ ghost use Rattle.disposition.specs.ItemData.{
   awaits,
 };
 
-use crate::{Handling, Handlings, by_option, handled};
-use codes::{CR, Disposition, FF, HT, LF, MaybeDisposition, NUL, SPACE};
+use crate::{Handling, Handlings, handled};
+use codes::{CR, Disposition, FF, HT, LF, NUL, SPACE};
 use keys::Key;
 
 // The most data of an item: CR LF, and 250 NULs for each of the two.
@@ -34,33 +34,17 @@ const DROPS: u8 = 252;
 const WAITS: u8 = 254;
 
 // The option that a character has, if any.
-fn disposition_of(b: u8) -> MaybeDisposition
+#[tactic(auto, unfolding(crate::specs::ItemData::disposition_of))]
+fn disposition_of(b: u8) -> Option<Disposition>
     ensures { result ≡ disposition_of b }
 {
     match b {
-        CR => MaybeDisposition::Some(Disposition::Naocrd),
-        LF => MaybeDisposition::Some(Disposition::Naolfd),
-        FF => MaybeDisposition::Some(Disposition::Naoffd),
-        HT => MaybeDisposition::Some(Disposition::Naohtd),
-        _ => MaybeDisposition::None,
+        CR => Some(Disposition::Naocrd),
+        LF => Some(Disposition::Naolfd),
+        FF => Some(Disposition::Naoffd),
+        HT => Some(Disposition::Naohtd),
+        _ => None,
     }
-}
-
-fn put_two(first: u8, second: u8, out: &mut [u8]) -> usize
-    requires { RoomFor (first ∷ second ∷ []) out.old }
-    ensures { WroteAtStart (first ∷ second ∷ []) (lent out) result }
-{
-    out[0] = first;
-    out[1] = second;
-    2
-}
-
-fn put_one(b: u8, out: &mut [u8]) -> usize
-    requires { RoomFor (b ∷ []) out.old }
-    ensures { WroteAtStart (b ∷ []) (lent out) result }
-{
-    out[0] = b;
-    1
 }
 
 // A character where nothing is done about it.
@@ -69,10 +53,10 @@ fn put_plainly(d: Disposition, out: &mut [u8]) -> usize
     ensures { WroteAtStart (character_bytes d) (lent out) result }
 {
     match d {
-        Disposition::Naocrd => put_two(CR, NUL, out),
-        Disposition::Naolfd => put_one(LF, out),
-        Disposition::Naoffd => put_one(FF, out),
-        Disposition::Naohtd => put_one(HT, out),
+        Disposition::Naocrd => wire::put_bytes(&[CR, NUL], out),
+        Disposition::Naolfd => wire::put_bytes(&[LF], out),
+        Disposition::Naoffd => wire::put_bytes(&[FF], out),
+        Disposition::Naohtd => wire::put_bytes(&[HT], out),
     }
 }
 
@@ -82,10 +66,9 @@ fn put_replacement(d: Disposition, out: &mut [u8]) -> usize
     ensures { WroteAtStart (replacement d) (lent out) result }
 {
     match d {
-        Disposition::Naocrd => put_plainly(d, out),
-        Disposition::Naolfd => put_plainly(d, out),
-        Disposition::Naoffd => put_two(CR, LF, out),
-        Disposition::Naohtd => put_one(SPACE, out),
+        Disposition::Naocrd | Disposition::Naolfd => put_plainly(d, out),
+        Disposition::Naoffd => wire::put_bytes(&[CR, LF], out),
+        Disposition::Naohtd => wire::put_bytes(&[SPACE], out),
     }
 }
 
@@ -94,11 +77,8 @@ fn nul_count(h: Handling) -> usize
     ensures { result ≡ nul_count h }
 {
     match h {
-        Handling::Sender(n) => match n {
-            1..=MOST_NULS => n as usize,
-            _ => 0,
-        },
-        Handling::Receiver(_) => 0,
+        Handling::Sender(n @ 1..=MOST_NULS) => usize::from(n),
+        Handling::Sender(_) | Handling::Receiver(_) => 0,
     }
 }
 
@@ -106,11 +86,7 @@ fn put_nuls(n: usize, out: &mut [u8]) -> usize
     requires { RoomFor (nuls n) out.old }
     ensures { WroteAtStart (nuls n) (lent out) result }
 {
-    let mut i: usize = 0;
-    while i < n {
-        out[i] = NUL;
-        i += 1;
-    }
+    out[..n].fill(NUL);
     n
 }
 
@@ -141,35 +117,32 @@ fn put_line(returns: Handling, feeds: Handling, out: &mut [u8]) -> usize
     if handled::handled_by(DROPS, feeds) {
         return put_character(Disposition::Naocrd, returns, out);
     }
-    let n = put_two(CR, LF, out);
+    let n = wire::put_bytes(&[CR, LF], out);
     let m = put_nuls(nul_count(returns) + nul_count(feeds), &mut out[n..]);
     n + m
 }
 
 // A typed character's data.
+#[tactic(auto, unfolding(crate::specs::ItemData::item_data))]
 fn put_char(h: Handlings, b: u8, out: &mut [u8]) -> usize
     requires { RoomFor (item_data h (Char b)) out.old }
     ensures { WroteAtStart (item_data h (Char b)) (lent out) result }
 {
-    let found = disposition_of(b);
-    match found {
-        MaybeDisposition::Some(d) => put_character(d, by_option::handling_of(h, d), out),
-        MaybeDisposition::None => put_one(b, out),
+    match disposition_of(b) {
+        Some(d) => put_character(d, h.of(d), out),
+        None => wire::put_bytes(&[b], out),
     }
 }
 
 // The data of a text item; a Command has none.
+#[tactic(auto, unfolding(crate::specs::ItemData::item_data))]
 pub fn put_item(h: Handlings, k: Key, out: &mut [u8]) -> usize
     requires { RoomFor (item_data h k) out.old }
     ensures { WroteAtStart (item_data h k) (lent out) result }
 {
     match k {
         Key::Char(b) => put_char(h, b, out),
-        Key::Line => {
-            let returns = h.naocrd;
-            let feeds = h.naolfd;
-            put_line(returns, feeds, out)
-        }
+        Key::Line => put_line(h.naocrd, h.naolfd, out),
         Key::Command(_) => 0,
     }
 }
@@ -178,12 +151,7 @@ pub fn put_item(h: Handlings, k: Key, out: &mut [u8]) -> usize
 fn in_line(d: Disposition) -> bool
     ensures { result ≡ in_line d }
 {
-    match d {
-        Disposition::Naocrd => true,
-        Disposition::Naolfd => true,
-        Disposition::Naoffd => false,
-        Disposition::Naohtd => false,
-    }
+    matches!(d, Disposition::Naocrd | Disposition::Naolfd)
 }
 
 fn character_of(d: Disposition) -> u8

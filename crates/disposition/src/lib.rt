@@ -2,14 +2,13 @@
 // character, and how.
 #![tactic(auto)]
 
+use codes::Each;
+
 mod by_option;
 mod handled;
 mod item_data;
 
-pub use by_option::{
-    all_unspoken, handling_of, is_waiting, no_waits, unspoken, values_of, wait_of, with_dr,
-    with_ds, with_values_of, with_wait_of,
-};
+pub use by_option::{is_waiting, unspoken, waits_while, with_dr, with_ds};
 pub use handled::{
     handler_number, handling_by, handling_in, handling_value, handlings_in, put_suggestion,
     suggest_refusal,
@@ -17,42 +16,24 @@ pub use handled::{
 pub use item_data::{ITEM_ROOM, awaits, put_item, takes_part};
 
 // DS, the bulletin end's value, and DR, the printer end's.
-#[derive(Clone, Copy)]
+#[derive(Clone, Copy, PartialEq, Eq)]
 pub struct Values {
     pub ds: u8,
     pub dr: u8,
 }
 
-// Those of each option.
-#[derive(Clone, Copy)]
-pub struct AllValues {
-    pub naocrd: Values,
-    pub naolfd: Values,
-    pub naoffd: Values,
-    pub naohtd: Values,
-}
-
-// For which options output waits, each by its own 254.
-#[derive(Clone, Copy)]
-pub struct Waits {
-    pub naocrd: bool,
-    pub naolfd: bool,
-    pub naoffd: bool,
-    pub naohtd: bool,
-}
-
 // Who handles the character of an option, by which value.
-#[derive(Clone, Copy)]
+#[derive(Clone, Copy, PartialEq, Eq)]
 pub enum Handling {
     Sender(u8),
     Receiver(u8),
 }
 
-// Of each option.
-#[derive(Clone, Copy)]
-pub struct Handlings {
-    pub naocrd: Handling,
-    pub naolfd: Handling,
-    pub naoffd: Handling,
-    pub naohtd: Handling,
-}
+// The values of each option.
+pub type AllValues = Each<Values>;
+
+// For which options output waits, each by its own 254.
+pub type Waits = Each<bool>;
+
+// How the character of each is handled.
+pub type Handlings = Each<Handling>;

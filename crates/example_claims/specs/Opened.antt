@@ -22,8 +22,9 @@ use Rattle.printer.specs.Calls.{network_call, key_typed, key_call, ask_call, sug
 use Rattle.printer.specs.Network.{data_read, side_moved, negotiation_read, body_read, byte_read, bytes_read, network_read}
 use Rattle.printer.specs.Session.{called, answers_from}
 use Rattle.printer.specs.UnusedTails.{lent_afresh}
-use Rattle.tape.specs.Fields.{found_at, part_of, fields_from, pairs, item_of, items_of}
-use Rattle.tape.specs.Lines.{digits, hex_byte, line_of, shown, bad_tape}
+use Rattle.decimals.specs.Decimals.{digits}
+use Rattle.tape.specs.Fields.{tag_of, found_at, part_of, fields_from, pairs}
+use Rattle.tape.specs.Lines.{hex_byte, line_of, shown, bad_tape}
 use Rattle.tape.specs.Running.{pair_of, item_answer, items_run, fields_run, tape_output}
 
 unfoldable pub layer_rules : Unit {0}
@@ -35,5 +36,5 @@ unfolding layer_rules network_call key_typed key_call ask_call suggest_call data
 printer_rules = tt
 
 unfoldable pub tape_rules : Unit {0}
-unfolding printer_rules found_at part_of fields_from pairs item_of items_of digits hex_byte line_of shown bad_tape lent_afresh pair_of item_answer items_run fields_run tape_output
+unfolding printer_rules tag_of found_at part_of fields_from pairs digits hex_byte line_of shown bad_tape lent_afresh pair_of item_answer items_run fields_run tape_output
 tape_rules = tt

@@ -1,7 +1,7 @@
 -- What the statuses alone decide, of the table that they belong to.
 use mathlib.Core.Path.{◌≡◌, refl}
 use Prim.Native.Nat.{ℕ}
-use Rattle.codes.specs.Answers.{refusal_of}
+use Rattle.codes.specs.Answers.{allowed}
 use Rattle.bodies.specs.declared.MacroReply.{MacroReply}
 use Rattle.bodies.specs.declared.MacroReply.TheVariants.{Accept, Refuse, PleaseCancel}
 use Rattle.sent_macros.specs.declared.SendingTable.{SendingTable}
@@ -15,5 +15,5 @@ kept_bare t i (Accept x) = refl
 kept_bare t i (Refuse x) = refl
 kept_bare t i (PleaseCancel x) = rw (accepted_bare t x)
 
-pub refusal_bare : (t : SendingTable) (i : Issues) (x : ℕ) → refusal_of (macro_guards (bare_table t.statuses) i x) ≡ refusal_of (macro_guards (view_table t) i x)
-refusal_bare t i x = rw (accepted_bare t x)
+pub allowed_bare : (t : SendingTable) (i : Issues) (x : ℕ) → allowed (macro_guards (bare_table t.statuses) i x) ≡ allowed (macro_guards (view_table t) i x)
+allowed_bare t i x = rw (accepted_bare t x)

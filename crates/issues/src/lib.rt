@@ -2,7 +2,7 @@
 #![tactic(auto)]
 
 ghost use Rattle.std.specs.Prelude.{◌≡◌};
-ghost use Rattle.codes.specs.Answers.{refusal_of};
+ghost use Rattle.codes.specs.Answers.{allowed};
 ghost use Rattle.sent_macros.specs.Refinement.{bare_table};
 ghost use Rattle.issues.specs.Issues.{first_issue, with_present, kept_of, keeping, forgetting, kept_after, macro_guards};
 
@@ -25,7 +25,7 @@ pub fn first() -> Issues
 {
     Issues {
         present: 0,
-        kept: [0u16; BYTES],
+        kept: [0; BYTES],
     }
 }
 
@@ -33,18 +33,14 @@ pub fn first() -> Issues
 pub fn with_present(i: Issues, n: u16) -> Issues
     ensures { result ≡ with_present i n }
 {
-    let mut t = i;
-    t.present = n;
-    t
+    Issues { present: n, ..i }
 }
 
 // The number that the last DEFINE of a byte kept.
 pub fn kept_of(i: Issues, x: u8) -> u16
     ensures { result ≡ kept_of i x }
 {
-    let kept = i.kept;
-    let at = x as usize;
-    kept[at]
+    i.kept[x as usize]
 }
 
 // A definition of the byte keeps the number in force.
@@ -52,12 +48,8 @@ pub fn keep(i: Issues, x: u8) -> Issues
     ensures { result ≡ keeping i x }
 {
     let mut kept = i.kept;
-    let at = x as usize;
-    kept[at] = i.present;
-    Issues {
-        present: i.present,
-        kept,
-    }
+    kept[x as usize] = i.present;
+    Issues { kept, ..i }
 }
 
 // The definitions are gone, and their numbers with them.
@@ -65,8 +57,8 @@ pub fn forget(i: Issues) -> Issues
     ensures { result ≡ forgetting i }
 {
     Issues {
-        present: i.present,
-        kept: [0u16; BYTES],
+        kept: [0; BYTES],
+        ..i
     }
 }
 
@@ -75,26 +67,21 @@ pub fn kept_after(statuses: &[u8; BYTES], i: Issues, reply: MacroReply) -> Issue
     ensures { result ≡ kept_after (bare_table statuses.now) i reply }
 {
     match reply {
-        MacroReply::Accept(_) => i,
-        MacroReply::Refuse(_) => i,
-        MacroReply::PleaseCancel(x) => {
-            if sent_macros::is_accepted(statuses, x) {
-                return keep(i, x);
-            }
-            i
-        }
+        MacroReply::PleaseCancel(x) if sent_macros::is_accepted(statuses, x) => keep(i, x),
+        _ => i,
     }
 }
 
-// The refusals of a macro's use that turn on its byte, in their order; Done: none.
-pub fn use_refusal(statuses: &[u8; BYTES], i: Issues, x: u8) -> Code
-    ensures { result ≡ refusal_of (macro_guards (bare_table statuses.now) i x) }
+// The refusals of a macro's use that turn on its byte, in their order.
+#[tactic(auto, unfolding(codes::specs::Answers::allowed))]
+pub fn use_refusal(statuses: &[u8; BYTES], i: Issues, x: u8) -> Result<(), Code>
+    ensures { result ≡ allowed (macro_guards (bare_table statuses.now) i x) }
 {
     if !sent_macros::is_accepted(statuses, x) {
-        return Code::NoText;
+        return Err(Code::NoText);
     }
     if kept_of(i, x) != i.present {
-        return Code::IssueDiffers;
+        return Err(Code::IssueDiffers);
     }
-    Code::Done
+    Ok(())
 }

@@ -1,7 +1,22 @@
--- Keys as numbers: a queue in the code keeps them so.
-use Rattle.std.specs.Prelude.{cond, ℕ, ◌+◌, ◌%◌, ◌<◌, ltb}
+-- A class of the code as the rule's number, and keys as numbers: a queue in the code keeps them so.
+use Rattle.std.specs.Prelude.{cond, ℕ, ◌+◌, ◌%◌, ◌<◌, ltb, Option, Some, None}
+use Rattle.keys.specs.declared.classes.Class.{Class}
+use Rattle.keys.specs.declared.classes.Class.TheVariants.{Upper, Lower, Digit, FormatEffector, Control, Punctuation, Bracket, Symbol, Space}
 use Rattle.keys.specs.declared.Key.{Key}
 use Rattle.keys.specs.declared.Key.TheVariants.{Char, Line, Command}
+
+-- the number of a class, 0 for none
+abbrev pub class_number : Option Class → ℕ
+class_number None = 0
+class_number (Some Upper) = 1
+class_number (Some Lower) = 2
+class_number (Some Digit) = 3
+class_number (Some FormatEffector) = 4
+class_number (Some Control) = 5
+class_number (Some Punctuation) = 6
+class_number (Some Bracket) = 7
+class_number (Some Symbol) = 8
+class_number (Some Space) = 9
 
 abbrev pub key_number : Key → ℕ
 key_number (Char b) = b

@@ -1,7 +1,9 @@
 // RFC 726's list of the classes, in its order and with its characters, to be held beside the paper class by class.
-ghost use Rattle.std.specs.Prelude.{◌≡◌, ◌||◌, leb, eqb};
+// One match over all of them would be compiled to a table, and none is to be stored: so each list is a test of its own.
+ghost use Rattle.std.specs.Prelude.{◌≡◌, ◌||◌, leb, eqb, Some};
 ghost use Rattle.lists.specs.Choice.{between, one_of};
 ghost use Rattle.keys.specs.Keys.{class_of, format_effectors, punctuation, brackets, symbols};
+ghost use Rattle.keys.specs.Refinement.{class_number};
 
 use codes::{CR, FF, HT, LF};
 
@@ -14,38 +16,71 @@ const US: u8 = 31;
 
 const DEL: u8 = 127;
 
-// A byte's class, 0 for none.
-pub fn class_of(b: u8) -> u8
-    ensures { result ≡ class_of b }
+// The nine classes: class 1 is Upper.
+#[derive(Clone, Copy, PartialEq, Eq)]
+pub enum Class {
+    Upper,
+    Lower,
+    Digit,
+    FormatEffector,
+    Control,
+    Punctuation,
+    Bracket,
+    Symbol,
+    Space,
+}
+
+impl From<Class> for u8 {
+    ghost from_gives = { λ c n. n ≡ class_number (Some c) };
+
+    fn from(c: Class) -> u8 {
+        match c {
+            Class::Upper => 1,
+            Class::Lower => 2,
+            Class::Digit => 3,
+            Class::FormatEffector => 4,
+            Class::Control => 5,
+            Class::Punctuation => 6,
+            Class::Bracket => 7,
+            Class::Symbol => 8,
+            Class::Space => 9,
+        }
+    }
+}
+
+// A byte's class.
+#[tactic(auto, unfolding(crate::specs::Keys::class_of))]
+pub fn class_of(b: u8) -> Option<Class>
+    ensures { class_number result ≡ class_of b }
 {
     if is_between(b'A', b'Z', b) {
-        return 1;
+        return Some(Class::Upper);
     }
     if is_between(b'a', b'z', b) {
-        return 2;
+        return Some(Class::Lower);
     }
     if is_between(b'0', b'9', b) {
-        return 3;
+        return Some(Class::Digit);
     }
     if is_format_effector(b) {
-        return 4;
+        return Some(Class::FormatEffector);
     }
     if is_control(b) {
-        return 5;
+        return Some(Class::Control);
     }
     if is_punctuation(b) {
-        return 6;
+        return Some(Class::Punctuation);
     }
     if is_bracket(b) {
-        return 7;
+        return Some(Class::Bracket);
     }
     if is_symbol(b) {
-        return 8;
+        return Some(Class::Symbol);
     }
     if b == b' ' {
-        return 9;
+        return Some(Class::Space);
     }
-    0
+    None
 }
 
 fn is_between(low: u8, high: u8, b: u8) -> bool
@@ -54,52 +89,45 @@ fn is_between(low: u8, high: u8, b: u8) -> bool
     low <= b && b <= high
 }
 
-// Class 4: format effectors. A Line, which is CR LF, is of it too (key_class).
+// A Line, which is CR LF, is a format effector too (key_class).
+#[tactic(auto, unfolding(lists::specs::Choice::one_of))]
 fn is_format_effector(b: u8) -> bool
     ensures { result ≡ one_of format_effectors b }
 {
-    match b {
-        BS | CR | LF | FF | HT | VT => true,
-        _ => false,
-    }
+    matches!(b, BS | CR | LF | FF | HT | VT)
 }
 
-// Class 5: the other control characters, ESC and DEL among them; class_of asks for the format effectors first.
+// The other control characters, ESC and DEL among them; class_of asks for the format effectors first.
 fn is_control(b: u8) -> bool
     ensures { result ≡ (leb b 31 || eqb b 127) }
 {
     b <= US || b == DEL
 }
 
-// Class 6.
+#[tactic(auto, unfolding(lists::specs::Choice::one_of))]
 fn is_punctuation(b: u8) -> bool
     ensures { result ≡ one_of punctuation b }
 {
-    match b {
-        b'.' | b',' | b';' | b':' | b'?' | b'!' => true,
-        _ => false,
-    }
+    matches!(b, b'.' | b',' | b';' | b':' | b'?' | b'!')
 }
 
-// Class 7.
+#[tactic(auto, unfolding(lists::specs::Choice::one_of))]
 fn is_bracket(b: u8) -> bool
     ensures { result ≡ one_of brackets b }
 {
-    match b {
-        b'{' | b'[' | b'(' | b'<' | b'>' | b')' | b']' | b'}' => true,
-        _ => false,
-    }
+    matches!(b, b'{' | b'[' | b'(' | b'<' | b'>' | b')' | b']' | b'}')
 }
 
-// Class 8.
+// The RFC has the last, `, in no class; request A1 adds it.
+#[tactic(auto, unfolding(lists::specs::Choice::one_of))]
 fn is_symbol(b: u8) -> bool
     ensures { result ≡ one_of symbols b }
 {
-    match b {
-        b'\'' | b'"' | b'/' | b'\\' | b'%' | b'@' | b'$' | b'&' | b'#' => true,
-        b'+' | b'-' | b'*' | b'=' | b'^' | b'_' | b'|' | b'~' => true,
-        // the RFC has it in no class; request A1 adds it
-        b'`' => true,
-        _ => false,
-    }
+    matches!(
+        b,
+        b'\'' | b'"' | b'/' | b'\\' | b'%' | b'@' | b'$' | b'&' | b'#'
+    ) || matches!(
+        b,
+        b'+' | b'-' | b'*' | b'=' | b'^' | b'_' | b'|' | b'~' | b'`'
+    )
 }

@@ -4,16 +4,16 @@
 ghost use Rattle.std.specs.Prelude.{◌≡◌};
 ghost use Rattle.lists.specs.Buffers.{lent, WroteAtStart, RoomFor};
 ghost use Rattle.keys.specs.Keys.{bad_command, key_class, class_bit, in_classes, is_command, prints, key_paper};
-ghost use Rattle.keys.specs.Refinement.{key_number, key_of_number};
+ghost use Rattle.keys.specs.Refinement.{class_number, key_number, key_of_number};
 
 use codes::{CR, LF};
 
 mod classes;
 
-pub use classes::class_of;
+pub use classes::{Class, class_of};
 
 // Char and Line are typed characters; a Command is one of Telnet's codes 241 to 249.
-#[derive(Clone, Copy)]
+#[derive(Clone, Copy, PartialEq, Eq)]
 pub enum Key {
     Char(u8),
     Line,
@@ -24,34 +24,26 @@ pub enum Key {
 pub fn bad_command(k: Key) -> bool
     ensures { result ≡ bad_command k }
 {
-    match k {
-        Key::Char(_) => false,
-        Key::Line => false,
-        Key::Command(c) => !codes::plain_command(c),
-    }
+    matches!(k, Key::Command(c) if !codes::plain_command(c))
 }
 
-pub fn key_class(k: Key) -> u8
-    ensures { result ≡ key_class k }
+pub fn key_class(k: Key) -> Option<Class>
+    ensures { class_number result ≡ key_class k }
 {
     match k {
         Key::Char(b) => class_of(b),
-        Key::Line => 4,
-        Key::Command(_) => 0,
+        Key::Line => Some(Class::FormatEffector),
+        Key::Command(_) => None,
     }
 }
 
 pub fn is_command(k: Key) -> bool
     ensures { result ≡ is_command k }
 {
-    match k {
-        Key::Char(_) => false,
-        Key::Line => false,
-        Key::Command(_) => true,
-    }
+    matches!(k, Key::Command(_))
 }
 
-// The bit of one of the nine classes; another class has none.
+// The bit of the class of a number in a pair; a number of no class has none.
 fn bit_of(pair: u16, class: u8) -> u16
     ensures { result ≡ class_bit pair class }
 {
@@ -69,22 +61,28 @@ fn bit_of(pair: u16, class: u8) -> u16
     }
 }
 
+// By the number and not by a Class: its contract answers for every number, also one of no class.
+#[tactic(auto, unfolding(crate::specs::Keys::in_classes))]
 pub fn in_classes(pair: u16, class: u8) -> bool
     ensures { result ≡ in_classes pair class }
 {
     bit_of(pair, class) == 1
 }
 
+// Whether a pair has the bit of a class.
+#[tactic(auto, unfolding(crate::specs::Keys::in_classes))]
+pub fn sets(pair: u16, class: Option<Class>) -> bool
+    ensures { result ≡ in_classes pair (class_number class) }
+{
+    class.is_some_and(|class| in_classes(pair, u8::from(class)))
+}
+
 // Whether a byte prints itself.
+#[tactic(auto, unfolding(crate::specs::Keys::prints))]
 pub fn prints(b: u8) -> bool
     ensures { result ≡ prints b }
 {
-    let class = class_of(b);
-    match class {
-        0 => false,
-        5 => false,
-        _ => true,
-    }
+    !matches!(class_of(b), None | Some(Class::Control))
 }
 
 // A key's paper, at the start of out.
@@ -93,18 +91,16 @@ pub fn put_paper(k: Key, out: &mut [u8]) -> usize
     ensures { WroteAtStart (key_paper k) (lent out) result }
 {
     match k {
-        Key::Char(b) => {
-            if prints(b) {
-                out[0] = b;
-                return 1;
-            }
-            0
+        Key::Char(b) if prints(b) => {
+            out[0] = b;
+            1
         }
         Key::Line => {
             out[0] = CR;
             out[1] = LF;
             2
         }
+        Key::Char(_) => 0,
         Key::Command(_) => 0,
     }
 }
@@ -115,24 +111,27 @@ const LINE: u16 = 256;
 const COMMAND: u16 = 512;
 
 // A key as one number, for a queue.
-pub fn key_number(k: Key) -> u16
-    ensures { result ≡ key_number k }
-{
-    match k {
-        Key::Char(b) => b as u16,
-        Key::Line => LINE,
-        Key::Command(c) => COMMAND + c as u16,
+impl From<Key> for u16 {
+    ghost from_gives = { λ k n. n ≡ key_number k };
+
+    fn from(k: Key) -> u16 {
+        match k {
+            Key::Char(b) => u16::from(b),
+            Key::Line => LINE,
+            Key::Command(c) => COMMAND + u16::from(c),
+        }
     }
 }
 
-pub fn key_of_number(n: u16) -> Key
-    ensures { result ≡ key_of_number n }
-{
-    if n < LINE {
-        return Key::Char(n as u8);
+impl From<u16> for Key {
+    ghost from_gives = { λ n k. k ≡ key_of_number n };
+
+    #[tactic(auto, unfolding(crate::specs::Refinement::key_of_number))]
+    fn from(n: u16) -> Key {
+        match n {
+            0..LINE => Key::Char(n as u8),
+            LINE..COMMAND => Key::Line,
+            _ => Key::Command((n % 256) as u8),
+        }
     }
-    if n < COMMAND {
-        return Key::Line;
-    }
-    Key::Command((n % 256) as u8)
 }

@@ -1,12 +1,19 @@
 -- A scan from the front of a list finds how many elements pass.
 use mathlib.Core.Path.{◌≡◌, refl, sym, ap}
-use mathlib.Core.Bool.{Bool, true, false, ◌||◌, false≢true, cond}
+use mathlib.Core.Bool.{Bool, true, false, ◌||◌, false≢true, not, cond}
 use mathlib.Core.List.{List, [], ◌∷◌}
-use Prim.Native.Nat.{ℕ, zero, suc, ◌+◌, ◌≤◌, ◌<◌}
+use Prim.Native.Nat.{ℕ, zero, suc, ◌+◌, ◌-◌, ◌≤◌, ◌<◌}
 use native.Mathlib.Omega.{arith}
 use native.Mathlib.Decide.{dec_lt}
-use lib.ListN.{length, take, get_or, length-take}
+use lib.ListN.{length, take, drop, get_or, length-take, length-drop}
+use Rattle.std.proofs.Common.{get_or-drop}
 use lib.Seq.{get_or-take}
+use borrow.Author.Tests.{not-true, not-false, lt-ltb, le-ltb}
+use Rattle.std.proofs.Common.{Some, None}
+use lib.Dec.{ltb}
+use Rattle.std.specs.Option.{unwrap_or}
+use Rattle.std.specs.List.{position_or_len}
+use Rattle.std.proofs.lemmas.List.Sums.{fails_before_first, passes_at_first, prefix_len-le-length}
 use Rattle.lists.specs.Fronts.{front, Pass, Scanned}
 
 -- a test that none met, taken apart
@@ -36,14 +43,17 @@ module _ {f : ℕ → Bool} {xs : List ℕ} where
       go : (k : ℕ) → k ≡ b → f (get_or xs k 0) ≡ true
       go k same = rw same e
 
-  pub scan_begun : Scanned f xs 0
-  scan_begun = record { within = omega arith; passed = pass_none (omega arith) }
-
-  pub scan_more : {n : ℕ} → Scanned f xs n → n < length xs → f (get_or xs n 0) ≡ true → Scanned f xs (n + 1)
-  scan_more s lt e = record { within = omega arith; passed = pass_more s.passed e }
-
   pub scan_further : {n m : ℕ} → Scanned f xs n → m ≤ length xs → Pass f xs n m → Scanned f xs m
   scan_further s le p = record { within = le; passed = pass_both s.passed p }
+
+-- a part that passes is a stretch that passes
+pub pass_in_part : (f : ℕ → Bool) (xs : List ℕ) (n m : ℕ) → Pass f (take m (drop n xs)) 0 m → Pass f xs n (n + m)
+pass_in_part f xs n m p = record { each = λ k le lt. go k le (omega arith) (p.each (k - n) (omega arith) (omega arith)) }
+  where
+    go : (k : ℕ) → n ≤ k → k - n < m → f (get_or (take m (drop n xs)) (k - n) 0) ≡ true → f (get_or xs k 0) ≡ true
+    go k le lt e =
+        let place : n + (k - n) ≡ k = omega arith in
+        rw (get_or-take m (drop n xs) (k - n) 0 lt, get_or-drop n xs (k - n) 0, place) at e
 
 -- a scan is over at the end, or at an element that does not pass
 pub front_is : (f : ℕ → Bool) (xs : List ℕ) (n : ℕ) → Scanned f xs n → (n < length xs → f (get_or xs n 0) ≡ false) → n ≡ front f xs
@@ -53,6 +63,32 @@ front_is f (x ∷ xs) zero s stops = rw (stops (omega arith))
 front_is f (x ∷ xs) (suc n) s stops =
     let rest : Scanned f xs n = record { within = omega (arith, s.within); passed = record { each = λ k le lt. s.passed.each (suc k) (omega arith) (omega arith) } } in
     rw (s.passed.each 0 (omega arith) (omega arith)) (ap suc (front_is f xs n rest (λ lt. stops (omega arith))))
+
+-- a scan, and behind it the first place that does not pass
+front_behind : (f : ℕ → Bool) (xs : List ℕ) (n : ℕ) → Scanned f xs n → n + position_or_len (λ x. not (f x)) (drop n xs) ≡ front f xs
+front_behind f xs n s =
+    let rest = drop n xs in
+    let fails : ℕ → Bool = λ x. not (f x) in
+    let m = position_or_len fails rest in
+    let inside : m ≤ length rest = prefix_len-le-length (λ x. not (fails x)) rest in
+    let long : length rest ≡ length xs - n = length-drop n xs in
+    let passed : Pass f xs n (n + m) = pass_in_part f xs n m (record { each = λ k le lt. rw (get_or-take m rest k 0 lt) (not-false (f (get_or rest k 0)) (fails_before_first fails rest k 0 lt)) }) in
+    let le = s.within in
+    front_is f xs (n + m) (scan_further s (omega arith) passed) (λ lt. rw (get_or-drop n xs m 0) at (not-true (f (get_or rest m 0)) (passes_at_first fails rest 0 (omega arith))))
+
+-- a place in a list, if it is one, else the list's length
+or_else : (m long : ℕ) → m ≤ long → unwrap_or (cond (ltb m long) (Some m) None) long ≡ m
+or_else m long le = go (dec_lt m long)
+  where
+    go : Dec (m < long) → unwrap_or (cond (ltb m long) (Some m) None) long ≡ m
+    go (yes lt) = rw (lt-ltb m long lt)
+    go (no ge) = rw (le-ltb m long (omega (arith, ge))) (omega (arith, ge))
+
+pub front_found : (f : ℕ → Bool) (xs : List ℕ) (n : ℕ) → Scanned f xs n
+    → let rest = drop n xs in let m = position_or_len (λ x. not (f x)) rest in n + unwrap_or (cond (ltb m (length rest)) (Some m) None) (length rest) ≡ front f xs
+front_found f xs n s =
+    let rest = drop n xs in
+    rw (or_else (position_or_len (λ x. not (f x)) rest) (length rest) (prefix_len-le-length (λ x. not (not (f x))) rest)) (front_behind f xs n s)
 
 pub front_within : (f : ℕ → Bool) (xs : List ℕ) → front f xs ≤ length xs
 unfolding front

@@ -1,6 +1,6 @@
 -- The test whether two lists are equal.
 use mathlib.Core.Path.{◌≡◌, refl}
-use mathlib.Core.Bool.{Bool, true, false, false≢true}
+use mathlib.Core.Bool.{true, false≢true}
 use mathlib.Core.List.{List, [], ◌∷◌}
 use Prim.Native.Nat.{ℕ}
 use borrow.Author.Tests.{eq-eqb, eqb-true}
@@ -20,10 +20,3 @@ same_equal [] (n ∷ m) e = absurd (false≢true e)
 same_equal (k ∷ l) [] e = absurd (false≢true e)
 same_equal (k ∷ l) (n ∷ m) e =
     rw (eqb-true k n (both_left (eqb k n) (is_same l m) e), same_equal l m (both_right (eqb k n) (is_same l m) e))
-
-pub not_same : (l m : List ℕ) → (l ≡ m → ⊥) → is_same l m ≡ false
-not_same l m h = go (is_same l m) refl
-  where
-    go : (b : Bool) → is_same l m ≡ b → b ≡ false
-    go true e = absurd (h (same_equal l m e))
-    go false e = refl

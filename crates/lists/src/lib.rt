@@ -1,2 +1,6 @@
-// Definitions and laws on lists that every other crate shares. There is no code here.
+// Definitions and laws on lists that every other crate shares, and the scan for the bytes at the front that pass a test.
 #![tactic(auto)]
+
+mod scans;
+
+pub use scans::front;

@@ -10,10 +10,8 @@ fn print_mended(rt: &impl Print, drops: &impl Print, capture: &[u8]) -> io::Resu
     let mut out = [0u8; CAPTURE_ROOM];
     let mut list = [0u8; LIST_ROOM];
     let answer = mending::mend(capture, &mut out, &mut list);
-    let written = answer.written;
-    let listed = answer.listed;
-    rt.write_all(&out[..written])?;
-    let _ = drops.write_all(&list[..listed]);
+    rt.write_all(&out[..answer.written])?;
+    let _ = drops.write_all(&list[..answer.listed]);
     Ok(())
 }
 
@@ -30,8 +28,7 @@ fn main(rt: HostRuntime) {
         streams::fail(&rt.stderr(), b"standard input", error);
         return;
     }
-    let n = input.len;
-    if let Err(error) = print_mended(&rt, &rt.stderr(), &capture[..n]) {
+    if let Err(error) = print_mended(&rt, &rt.stderr(), &capture[..input.len]) {
         streams::fail(&rt.stderr(), b"standard output", error);
     }
 }

@@ -9,17 +9,15 @@ use Rattle.codes.specs.Telnet.{RCTE, BM}
 use Rattle.codes.specs.Dispositions.{disposition_numbered, of_disposition}
 use Rattle.codes.specs.declared.Disposition.{Disposition}
 use Rattle.codes.specs.declared.Disposition.TheVariants.{Naocrd, Naolfd, Naoffd, Naohtd}
-use Rattle.codes.specs.declared.MaybeDisposition.{MaybeDisposition}
-use Rattle.codes.specs.declared.MaybeDisposition.TheVariants.{Some, None}
+use Rattle.std.specs.Prelude.{Option, Some, None, Ok, Err}
 use Rattle.codes.specs.declared.Note.TheVariants.{Inactive, OtherOption}
 use Rattle.negotiation.specs.declared.End.{End}
 use Rattle.negotiation.specs.declared.Sides.{Sides}
 use Rattle.negotiation.specs.Table.{is_yes}
 use Rattle.negotiation.specs.Carried.{macros_in_force, disposition_in_force}
 use Rattle.reader.specs.Reading.{by_option}
-use Rattle.subnegotiation.specs.declared.Checked.{Checked}
-use Rattle.subnegotiation.specs.declared.Checked.TheVariants.{Noted, Rcte, Disposes, Macro}
-use Rattle.subnegotiation.specs.Checks.{in_force, option_checked, checked}
+use Rattle.subnegotiation.specs.Checks.{Checked, in_force, option_checked, checked}
+use Rattle.subnegotiation.specs.declared.Subject.TheVariants.{Rcte, Disposes, Macro}
 use Rattle.mending.specs.Judging.{all_in_force}
 
 all_dispose : (d : Disposition) → disposition_in_force all_in_force d ≡ true
@@ -29,15 +27,15 @@ all_dispose Naoffd = refl
 all_dispose Naohtd = refl
 
 -- the check on a body's option, from what it was found to be
-abbrev by_found : Sides → (rcte bm : Bool) → MaybeDisposition → Checked
+abbrev by_found : Sides → (rcte bm : Bool) → Option Disposition → Checked
 by_found s rcte bm found =
     cond rcte (in_force (is_yes s.rcte) Rcte)
     (cond bm (in_force (macros_in_force End.Printer s) Macro)
-    (of_disposition (Noted OtherOption) (λ d. in_force (disposition_in_force s d) (Disposes d)) found))
+    (of_disposition (Err OtherOption) (λ d. in_force (disposition_in_force s d) (Disposes d)) found))
 
 -- a body is checked as with every option in force, or its option is not in force
-module _ (P : Checked → Type 0) (sides : Sides) (inactive : P (Noted Inactive)) where
-  option_either : (rcte bm : Bool) (found : MaybeDisposition) → P (by_found all_in_force rcte bm found) → P (by_found sides rcte bm found)
+module _ (P : Checked → Type 0) (sides : Sides) (inactive : P (Err Inactive)) where
+  option_either : (rcte bm : Bool) (found : Option Disposition) → P (by_found all_in_force rcte bm found) → P (by_found sides rcte bm found)
   option_either true bm found p = either P (is_yes sides.rcte) p inactive
   option_either false true found p = either P (macros_in_force End.Printer sides) p inactive
   option_either false false None p = p

@@ -1,4 +1,5 @@
 -- The notes that a mended capture gives.
+use Rattle.std.specs.Prelude.{Ok, Err}
 use mathlib.Core.Path.{◌≡◌, refl, ap}
 use mathlib.Core.Bool.{true, false}
 use mathlib.Core.List.{List, [], ◌∷◌, ◌++◌, append_assoc, flat_map}
@@ -11,10 +12,8 @@ use Rattle.codes.specs.declared.Note.TheVariants.{Clear}
 use Rattle.reader.specs.Reading.{is_between}
 use Rattle.printer.specs.State.{PrinterState}
 use Rattle.printer.specs.Network.{byte_read, bytes_read}
-use Rattle.printer.proofs.Runs.{call_done}
-use Rattle.mending.specs.declared.Judged.{Judged}
-use Rattle.mending.specs.declared.Judged.TheVariants.{Copied, Dropped}
-use Rattle.mending.specs.Judging.{judged}
+use Rattle.printer.specs.NetworkEnd.{call_done}
+use Rattle.mending.specs.Judging.{Judged, judged}
 use Rattle.mending.specs.Mending.{copied, copied_of, mended}
 use Rattle.mending.proofs.Walk.{Whole, last_read, walk}
 use Rattle.mended_captures.specs.Notes.{notes_read, notes_called, AllFaultless, at_rest, ReplacesNone, ReadsWithoutFault, CalledWithoutFault}
@@ -33,13 +32,13 @@ Faultless s bytes = AllFaultless (notes_read s bytes) × (is_between (bytes_read
 piece_faultless : (begun : List ℕ) (b : ℕ) (rest : List ℕ) (j : Judged) → Whole begun b → judged (last_read begun b) ≡ j
     → ((s : PrinterState) → Faultless (at_rest s) rest) → (s : PrinterState) → Faultless (at_rest s) (copied_of (begun ++ b ∷ []) j ++ rest)
 unfolding AllFaultless
-piece_faultless begun b rest Copied w e ih s =
+piece_faultless begun b rest (Ok u) w e ih s =
     let d = last_effect s begun b in
     let h = rw e at (last_read_lem s begun b w) in
     let after : Faultless d.state rest = rw (rested d.state h.1) (ih d.state) in
     rw (append_assoc begun (b ∷ []) rest, piece_notes s begun b rest w, piece_bytes s begun b rest w)
     (clear_fit (length begun) (d.note ∷ notes_read d.state rest) (h.0, after.0), after.1)
-piece_faultless begun b rest (Dropped reason) w e ih s = ih s
+piece_faultless begun b rest (Err reason) w e ih s = ih s
 
 faultless : (capture : List ℕ) (s : PrinterState) → Faultless (at_rest s) (mended capture)
 unfolding flat_map AllFaultless notes_read bytes_read

@@ -1,4 +1,5 @@
 -- Each drop has the reason that is listed.
+use Rattle.std.specs.Prelude.{Ok, Err}
 use mathlib.Core.Path.{◌≡◌, refl, ap}
 use mathlib.Core.Bool.{true}
 use mathlib.Core.List.{List, [], ◌∷◌, ◌++◌, append_assoc, append-nil}
@@ -14,9 +15,7 @@ use Rattle.reader.proofs.Framing.{after_append}
 use Rattle.printer.specs.State.{PrinterState, fresh, with_sides, Effect}
 use Rattle.mending.specs.declared.Reason.{Reason}
 use Rattle.mending.specs.declared.Reason.TheVariants as why
-use Rattle.mending.specs.declared.Judged.{Judged}
-use Rattle.mending.specs.declared.Judged.TheVariants.{Copied, Dropped}
-use Rattle.mending.specs.Judging.{all_in_force, judged}
+use Rattle.mending.specs.Judging.{Judged, all_in_force, judged}
 use Rattle.mending.specs.Pieces.{pieces_of}
 use Rattle.mending.specs.Mending.{Drop, drop_of, drops_at}
 use Rattle.mending.proofs.Walk.{Whole, last_read, walk}
@@ -38,7 +37,7 @@ one_command begun b w =
     let size : length (begun ++ b ∷ []) - 1 ≡ length begun = simp length-append (omega arith) in
     rw (size, take-append_seam begun (b ∷ [])) w.silent
 
-piece_because : (begun : List ℕ) (b : ℕ) (reason : Reason) (last : Type 0) → Whole begun b → judged (last_read begun b) ≡ Dropped reason → Because reason (begun ++ b ∷ []) last
+piece_because : (begun : List ℕ) (b : ℕ) (reason : Reason) (last : Type 0) → Whole begun b → judged (last_read begun b) ≡ Err reason → Because reason (begun ++ b ∷ []) last
 piece_because begun b why.Unreadable last w e =
     (one_command begun b w, gives_at_end begun b Unreadable w (λ s. ap (λ (d : Effect). d.note) (rw e at (last_judged s begun b w))))
 piece_because begun b why.Stray last w e =
@@ -58,8 +57,8 @@ piece_reasoned : (front begun : List ℕ) (b : ℕ) (rest : List ℕ) (ds : List
     → judged (last_read begun b) ≡ j → let now = begun ++ b ∷ [] in EachReasoned (front ++ (now ++ rest)) ds
     → EachReasoned (front ++ (now ++ rest)) (drop_of (length front) (length now) j ++ ds)
 unfolding EachReasoned
-piece_reasoned front begun b rest ds Copied between w e h = h
-piece_reasoned front begun b rest ds (Dropped reason) between w e h =
+piece_reasoned front begun b rest ds (Ok u) between w e h = h
+piece_reasoned front begun b rest ds (Err reason) between w e h =
     (within front (begun ++ b ∷ []) rest reason between (piece_because begun b reason _ w e), h)
 
 pub drops_reasoned : DropsReasoned

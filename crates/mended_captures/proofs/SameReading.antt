@@ -1,4 +1,5 @@
 -- What is dropped prints, sends and takes up nothing, and leaves the end as it was.
+use Rattle.std.specs.Prelude.{Ok, Err}
 use mathlib.Core.Path.{◌≡◌, refl}
 use mathlib.Core.List.{List, [], ◌∷◌, ◌++◌, append_assoc, append-nil, flat_map}
 use Prim.Native.Nat.{ℕ}
@@ -7,9 +8,7 @@ use Rattle.reader.specs.Reading.{idle}
 use Rattle.reader.specs.Framing.{reader_after}
 use Rattle.printer.specs.State.{PrinterState, with_reader, Effect, nothing, notes, followed}
 use Rattle.printer.specs.Network.{bytes_read}
-use Rattle.mending.specs.declared.Judged.{Judged}
-use Rattle.mending.specs.declared.Judged.TheVariants.{Copied, Dropped}
-use Rattle.mending.specs.Judging.{judged}
+use Rattle.mending.specs.Judging.{Judged, judged}
 use Rattle.mending.specs.Mending.{copied, copied_of, mended}
 use Rattle.mending.proofs.Walk.{Whole, Begun, last_read, walk}
 use Rattle.mended_captures.specs.Notes.{at_rest}
@@ -38,12 +37,12 @@ unfinished_same begun u s = rw (unfinished_read begun u s) (record { paper = ref
 piece_same : (begun : List ℕ) (b : ℕ) (rest left : List ℕ) (j : Judged) → Whole begun b → judged (last_read begun b) ≡ j
     → ((s : PrinterState) → SameReading (bytes_read (at_rest s) left) (bytes_read (at_rest s) rest))
     → (s : PrinterState) → SameReading (bytes_read (at_rest s) (copied_of (begun ++ b ∷ []) j ++ left)) (bytes_read (at_rest s) (begun ++ b ∷ rest))
-piece_same begun b rest left Copied w e ih s =
+piece_same begun b rest left (Ok u) w e ih s =
     let d = last_effect s begun b in
     let h = rw e at (last_read_lem s begun b w) in
     let after : SameReading (bytes_read d.state left) (bytes_read d.state rest) = rw (rested d.state h.1) (ih d.state) in
     rw (append_assoc begun (b ∷ []) left, piece_bytes s begun b left w, piece_bytes s begun b rest w) (behind d (bytes_read d.state left) (bytes_read d.state rest) after)
-piece_same begun b rest left (Dropped reason) w e ih s =
+piece_same begun b rest left (Err reason) w e ih s =
     let h = rw e at (last_read_lem s begun b w) in
     rw (piece_bytes s begun b rest w, h.1) (noted h.0 (at_rest s) (bytes_read (at_rest s) left) (bytes_read (at_rest s) rest) (ih s))
 

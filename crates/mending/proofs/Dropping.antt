@@ -1,4 +1,5 @@
 -- What is dropped and what is left: of any pieces first, and then of those that a capture has.
+use Rattle.std.specs.Prelude.{Ok, Err}
 use mathlib.Core.Path.{◌≡◌, refl, sym, ◌∙◌}
 use mathlib.Core.List.{List, [], ◌∷◌, ◌++◌, append_assoc, flat_map}
 use Prim.Native.Nat.{ℕ, ◌+◌, ◌-◌, ◌≤◌, ◌<◌}
@@ -11,9 +12,7 @@ use Rattle.reader.specs.Reading.{idle}
 use Rattle.reader.specs.Framing.{unclosed}
 use Rattle.reader.proofs.Framing.{frames_read}
 use Rattle.mending.specs.declared.Reason.{Reason}
-use Rattle.mending.specs.declared.Judged.{Judged}
-use Rattle.mending.specs.declared.Judged.TheVariants.{Copied, Dropped}
-use Rattle.mending.specs.Judging.{judged}
+use Rattle.mending.specs.Judging.{Judged, judged}
 use Rattle.mending.specs.Pieces.{Piece, pieces_from, pieces_of}
 use Rattle.mending.specs.Mending.{Drop, bytes_of, copied, copied_of, drop_of, drops_at, mended, drops, capture_room}
 use Rattle.mending.specs.Dropping.{without, InOrder, MendedIsWithoutDrops, DropsInOrder, NothingToDrop, MendedTwice, FrameIsPiece, ToldWhole, DropsToldWhole}
@@ -35,8 +34,8 @@ in_order (p ∷ ps) at end e h =
   where
     go : (j : Judged) → InOrder (at + length p.bytes) (drops_at (at + length p.bytes) ps) end
         → InOrder at (drop_of at (length p.bytes) j ++ drops_at (at + length p.bytes) ps) end
-    go Copied rest = earlier at (at + length p.bytes) end (drops_at (at + length p.bytes) ps) (omega arith) rest
-    go (Dropped reason) rest = (omega arith, e.0, rest)
+    go (Ok u) rest = earlier at (at + length p.bytes) end (drops_at (at + length p.bytes) ps) (omega arith) rest
+    go (Err reason) rest = (omega arith, e.0, rest)
 
 pub drops_in_order : DropsInOrder
 drops_in_order capture = in_order (pieces_of capture) 0 (length capture) (pieces_some capture) (rw (pieces_joined capture) (omega arith))
@@ -88,11 +87,11 @@ without_drops (p ∷ ps) at e = go p.judged (without_drops ps (at + length p.byt
 
     go : (j : Judged) → flat_map copied ps ≡ without now (drops_at now ps) (flat_map bytes_of ps)
         → copied_of p.bytes j ++ flat_map copied ps ≡ without at (drop_of at (length p.bytes) j ++ drops_at now ps) (p.bytes ++ flat_map bytes_of ps)
-    go Copied ih =
+    go (Ok u) ih =
         let left = flat_map bytes_of ps in
         let end = now + length left in
         rw ih (front_stays at end (drops_at now ps) p.bytes left (in_order ps now end e.1 (omega arith)))
-    go (Dropped reason) ih = ih ∙ sym (front_goes at reason (drops_at now ps) p.bytes (flat_map bytes_of ps))
+    go (Err reason) ih = ih ∙ sym (front_goes at reason (drops_at now ps) p.bytes (flat_map bytes_of ps))
 
 pub mended_is_without_drops : MendedIsWithoutDrops
 mended_is_without_drops capture = rw (pieces_joined capture) at (without_drops (pieces_of capture) 0 (pieces_some capture))
@@ -105,8 +104,8 @@ nothing_to_drop capture e = mended_is_without_drops capture ∙ (rw e)
 kept_none : (begun : List ℕ) (b : ℕ) (rest : List ℕ) (j : Judged) → Whole begun b → judged (last_read begun b) ≡ j → ((at : ℕ) → drops_at at (pieces_of rest) ≡ [])
     → (at : ℕ) → drops_at at (pieces_of (copied_of (begun ++ b ∷ []) j ++ rest)) ≡ []
 unfolding drops_at
-kept_none begun b rest Copied w e ih at = rw (append_assoc begun (b ∷ []) rest, first_piece begun b rest w, e) (ih (at + length (begun ++ b ∷ [])))
-kept_none begun b rest (Dropped reason) w e ih at = ih at
+kept_none begun b rest (Ok u) w e ih at = rw (append_assoc begun (b ∷ []) rest, first_piece begun b rest w, e) (ih (at + length (begun ++ b ∷ [])))
+kept_none begun b rest (Err reason) w e ih at = ih at
 
 mended_none : (capture : List ℕ) (at : ℕ) → drops_at at (pieces_of (mended capture)) ≡ []
 unfolding drops_at pieces_from flat_map

@@ -1,4 +1,5 @@
 -- The first piece of what is left of a capture, as it is found byte by byte.
+use Rattle.std.specs.Prelude.{Err}
 use mathlib.Core.Path.{◌≡◌, refl, ap, ◌∙◌}
 use mathlib.Core.Bool.{Bool, true, false, cond}
 use mathlib.Core.List.{List, [], ◌∷◌, ◌++◌}
@@ -12,10 +13,8 @@ use Rattle.reader.specs.declared.Read.{Read}
 use Rattle.reader.specs.Refinement.{view_reader, RefinesRead}
 use Rattle.reader.specs.Reading.{ReaderState, idle, read, is_between}
 use Rattle.mending.specs.declared.Reason.TheVariants.{Unfinished}
-use Rattle.mending.specs.declared.Judged.{Judged}
-use Rattle.mending.specs.declared.Judged.TheVariants.{Dropped}
 use Rattle.mending.specs.declared.Found.{Found}
-use Rattle.mending.specs.Judging.{item_judged, judged}
+use Rattle.mending.specs.Judging.{Judged, item_judged, judged}
 use Rattle.mending.specs.Pieces.{Piece, piece_of, pieces_from, pieces_of}
 use Rattle.mending.specs.Refinement.{found_from, first_found}
 
@@ -34,7 +33,7 @@ one_more false begun bs b j more f s = rw (← append_snoc begun b bs) (s refl)
 splits : (r : ReaderState) (begun bs : List ℕ) (n : ℕ) → n ≡ length begun → (bs ≡ [] → is_between r.phase ≡ false)
     → Splits begun bs (pieces_from r begun bs) (found_from r n bs)
 unfolding pieces_from found_from
-splits r begun [] n e h = rw (h refl) (splits_at begun [] (Dropped Unfinished) n e)
+splits r begun [] n e h = rw (h refl) (splits_at begun [] (Err Unfinished) n e)
 splits r begun (b ∷ bs) n e h =
     let x = read r b in
     rw e
@@ -84,6 +83,6 @@ module _ (rest : List ℕ) (r : Reader) (n : ℕ) (x : Read) (h : n < length res
   found_further e = found_next (view_reader r) n rest h ∙ rw (← w.view, e)
 
 -- no byte is left
-pub found_end : (r : ReaderState) (n : ℕ) (rest : List ℕ) → length rest ≤ n → found_from r n (drop n rest) ≡ record { size = n; judged = Dropped Unfinished }
+pub found_end : (r : ReaderState) (n : ℕ) (rest : List ℕ) → length rest ≤ n → found_from r n (drop n rest) ≡ record { size = n; judged = Err Unfinished }
 unfolding found_from
 found_end r n rest h = rw (drop_of_length-le rest {i = n} h)

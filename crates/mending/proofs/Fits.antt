@@ -1,4 +1,5 @@
 -- How long a mended capture and its lines become.
+use Rattle.std.specs.Prelude.{Ok, Err}
 use mathlib.Core.Path.{◌≡◌, refl}
 use mathlib.Core.Bool.{Bool, true, false}
 use mathlib.Core.List.{List, [], ◌∷◌, ◌++◌, append-nil, append_assoc, flat_map}
@@ -13,9 +14,7 @@ use Rattle.decimals.proofs.Digits.{number_length, one_digit}
 use Rattle.codes.specs.Telnet.{SPACE}
 use Rattle.mending.specs.declared.Reason.{Reason}
 use Rattle.mending.specs.declared.Reason.TheVariants.{Unfinished}
-use Rattle.mending.specs.declared.Judged.{Judged}
-use Rattle.mending.specs.declared.Judged.TheVariants.{Copied, Dropped}
-use Rattle.mending.specs.Judging.{judged}
+use Rattle.mending.specs.Judging.{Judged, judged}
 use Rattle.mending.specs.Pieces.{Piece, pieces_of}
 use Rattle.mending.specs.Mending.{Drop, bytes_of, copied, copied_of, mended, drop_of, drops_at, drop_line, lines_of}
 use Rattle.mending.specs.Dropping.{MendingFits}
@@ -35,10 +34,10 @@ line_short d k h = simp length-append (go (ltb d.size 10) refl)
     go true e = omega (arith, number_length d.offset SPACE, number_short d.size SPACE (ltb-true d.size 10 e))
     go false e = omega (arith, number_length d.offset SPACE, number_length d.size SPACE, ltb-false d.size 10 e)
 
-lines_short : (at size k : ℕ) (j : Judged) → ((reason : Reason) → j ≡ Dropped reason → 10 ≤ 5 * size + k) → length (lines_of (drop_of at size j)) ≤ 5 * size + k
+lines_short : (at size k : ℕ) (j : Judged) → ((reason : Reason) → j ≡ Err reason → 10 ≤ 5 * size + k) → length (lines_of (drop_of at size j)) ≤ 5 * size + k
 unfolding flat_map
-lines_short at size k Copied h = omega arith
-lines_short at size k (Dropped reason) h =
+lines_short at size k (Ok u) h = omega arith
+lines_short at size k (Err reason) h =
     let d : Drop = record { offset = at; size = size; reason = reason } in
     rw (append-nil (drop_line d)) (line_short d k (h reason refl))
 
@@ -52,15 +51,15 @@ lines_fit : (capture : List ℕ) (at : ℕ) → length (lines_of (drops_at at (p
 unfolding drops_at flat_map
 lines_fit =
     walk (λ capture ps. (at : ℕ) → length (lines_of (drops_at at ps)) ≤ 5 * length capture + 5) (λ at. omega arith)
-    (λ begun u at. lines_short at (length begun) 5 (Dropped Unfinished) (λ reason e. omega (arith, begun_some begun u)))
+    (λ begun u at. lines_short at (length begun) 5 (Err Unfinished) (λ reason e. omega (arith, begun_some begun u)))
     (λ begun b rest w ih at.
     let now = begun ++ b ∷ [] in
     let here = lines_short at (length now) 0 (judged (last_read begun b)) (λ reason e. omega (arith, dropped_two begun b reason w e)) in
     rw (lines_next, ← append_assoc begun (b ∷ []) rest, length-append now rest) (omega (arith, here, ih (at + length now))))
 
 copied_short : (bytes : List ℕ) (j : Judged) → length (copied_of bytes j) ≤ length bytes
-copied_short bytes Copied = omega arith
-copied_short bytes (Dropped reason) = omega arith
+copied_short bytes (Ok u) = omega arith
+copied_short bytes (Err reason) = omega arith
 
 copied_fit : (ps : List Piece) → length (flat_map copied ps) ≤ length (flat_map bytes_of ps)
 unfolding flat_map

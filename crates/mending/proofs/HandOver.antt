@@ -10,7 +10,7 @@ use Rattle.lists.proofs.Behind.{room_front, rest_start, rest_room, wrote_both, b
 use Rattle.mending.specs.declared.Scanned.{Scanned}
 use Rattle.mending.specs.Pieces.{Piece, pieces_of}
 use Rattle.mending.specs.Mending.{bytes_of}
-use Rattle.mending.specs.Refinement.{up_to, Scan, ahead, run_of, piece_scan, part_scan, RefinesScan}
+use Rattle.mending.specs.Refinement.{up_to, Scan, ahead, run_of, piece_scan, part_scan, both_scanned, RefinesScan}
 use Rattle.mending.proofs.Walk.{pieces_joined}
 use Rattle.mending.proofs.Scans.{behind, text_scan, piece_scan_lem}
 
@@ -52,12 +52,14 @@ module _ (at part : ℕ) (rest : List ℕ) {out : Lent} {n : ℕ} (w : WroteAtSt
   text_next_lines list room-list = lines_room (part_scan at part rest) (ahead n (run_of part rest) [] text_next) list split room-list
 
   module _ {last : List ℕ} {list : Lent} {s : Scanned} (v : RefinesScan text_next (lent_as (rest_of out n) last) list s) where
-    pub text_both : RefinesScan (part_scan at part rest) (with_rest out n last) list (record { taken = n + s.taken; written = n + s.written; listed = s.listed })
-    text_both = rw split (record {
-      taken = rw v.taken;
-      bytes = wrote_both w text_next.bytes whole_room v.bytes;
-      lines = v.lines;
-    })
+    pub text_both : RefinesScan (part_scan at part rest) (with_rest out n last) list (both_scanned (record { taken = n; written = n; listed = 0 }) s)
+    text_both =
+        let none : 0 + s.listed ≡ s.listed = omega arith in
+        rw split (record {
+          taken = rw v.taken;
+          bytes = wrote_both w text_next.bytes whole_room v.bytes;
+          lines = rw none v.lines;
+        })
 
     pub text_written : n + s.written ≤ length out.before
     text_written = both_within w text_next.bytes whole_room v.bytes
@@ -103,7 +105,7 @@ module _ (at part : ℕ) (rest : List ℕ) (some : 0 < length rest) (on : 0 < pa
     module _ {last last_lines : List ℕ} {s : Scanned}
         (v : RefinesScan piece_next (lent_as (rest_of out p.written) last) (lent_as (rest_of list p.listed) last_lines) s) where
       pub piece_both : RefinesScan (part_scan at part rest) (with_rest out p.written last) (with_rest list p.listed last_lines)
-          (record { taken = p.taken + s.taken; written = p.written + s.written; listed = p.listed + s.listed })
+          (both_scanned p s)
       piece_both = rw cut (record {
         taken = rw v.taken;
         bytes = wrote_both w.bytes piece_next.bytes all_bytes v.bytes;

@@ -1,4 +1,5 @@
 -- How a scan goes on: behind the first piece, behind a run of text, and where its part ends.
+use Rattle.std.specs.Prelude.{Ok}
 use mathlib.Core.Path.{◌≡◌, refl, ap, ◌∙◌}
 use mathlib.Core.Bool.{Bool, true, false, cond}
 use mathlib.Core.List.{List, [], ◌∷◌, flat_map, append-nil}
@@ -13,7 +14,6 @@ use Rattle.lists.proofs.Fronts.{front_within}
 use Rattle.lists.proofs.FlatMap.{flat_map-append}
 use Rattle.codes.specs.Telnet.{IAC, not_iac}
 use Rattle.reader.specs.Reading.{read}
-use Rattle.mending.specs.declared.Judged.TheVariants.{Copied}
 use Rattle.mending.specs.Pieces.{Piece, piece_of, pieces_from, pieces_of}
 use Rattle.mending.specs.Mending.{bytes_of, copied, drop_of, drops_at, drop_line}
 use Rattle.mending.specs.Refinement.{first_found, up_to, Scan, ahead, run_of, piece_scan, part_scan, piece_lines}
@@ -46,7 +46,7 @@ scan_none at zero (b ∷ bs) e = rw (up_to_zero (pieces_of (b ∷ bs)))
 scan_none at (suc n) (b ∷ bs) e = absurd (omega arith)
 
 -- a byte of text
-char_piece : (b : ℕ) (bs : List ℕ) → not_iac b ≡ true → pieces_of (b ∷ bs) ≡ piece_of (b ∷ []) Copied ∷ pieces_of bs
+char_piece : (b : ℕ) (bs : List ℕ) → not_iac b ≡ true → pieces_of (b ∷ bs) ≡ piece_of (b ∷ []) (Ok tt) ∷ pieces_of bs
 unfolding pieces_from read
 char_piece b bs h = rw (not-true (eqb b IAC) h)
 
@@ -63,7 +63,7 @@ longer n most at part b bs h true e f more =
     let here : at + 1 + n ≡ at + suc n = omega arith in
     let left : part - 1 - n ≡ part - suc n = omega arith in
     let next = rw (here, left) at (more (omega arith)) in
-    scan_piece at part (b ∷ bs) bs (piece_of (b ∷ []) Copied) (char_piece b bs e) (omega arith)
+    scan_piece at part (b ∷ bs) bs (piece_of (b ∷ []) (Ok tt)) (char_piece b bs e) (omega arith)
     ∙ (ap (ahead 1 (b ∷ []) []) next ∙ ahead_one n b (take n bs) (part_scan (at + suc n) (part - suc n) (drop n bs)))
 
 pub scan_run : (n most at part : ℕ) (rest : List ℕ) → n ≤ front not_iac (take most rest) → n ≤ part

@@ -1,5 +1,6 @@
 -- A capture goes piece by piece: what holds of no bytes, of an unfinished command, and of a piece in front of a capture of which
 -- it holds, holds of every capture.
+use Rattle.std.specs.Prelude.{Ok, Err}
 use mathlib.Core.Path.{◌≡◌, refl, ap, sym, ◌∙◌}
 use mathlib.Core.Bool.{Bool, true, false, true≢false, false≢true}
 use mathlib.Core.List.{List, [], ◌∷◌, ◌++◌, append_assoc, append-nil, flat_map}
@@ -14,7 +15,6 @@ use Rattle.reader.specs.Framing.{reader_after, Silent}
 use Rattle.reader.proofs.Framing.{after_append, silent_append, silent_inside}
 use Rattle.mending.specs.declared.Reason.{Reason}
 use Rattle.mending.specs.declared.Reason.TheVariants.{Unfinished}
-use Rattle.mending.specs.declared.Judged.TheVariants.{Copied, Dropped}
 use Rattle.mending.specs.Judging.{judged}
 use Rattle.mending.specs.Pieces.{Piece, piece_of, pieces_from, pieces_of}
 use Rattle.mending.specs.Mending.{bytes_of}
@@ -37,7 +37,7 @@ pub record Begun (begun : List ℕ) : Type 0 where
   pub inside : is_between (reader_after idle begun).phase ≡ false
 
 abbrev pub cut_piece : List ℕ → Piece
-cut_piece begun = piece_of begun (Dropped Unfinished)
+cut_piece begun = piece_of begun (Err Unfinished)
 
 -- behind silent bytes the reader is within a command
 silent_within : (r : ReaderState) (x : ℕ) (xs : List ℕ) → Silent r (x ∷ xs) → is_between (reader_after r (x ∷ xs)).phase ≡ false
@@ -93,15 +93,15 @@ pieces_joined =
     (λ begun b rest w ih. rw (append_assoc, ih))
 
 -- a command has a byte before its last: a byte by itself is text, and is copied
-pub single_copied : (b : ℕ) → Whole [] b → judged (last_read [] b) ≡ Copied
+pub single_copied : (b : ℕ) → Whole [] b → judged (last_read [] b) ≡ Ok tt
 unfolding reader_after read
 single_copied b w = go (eqb b IAC) refl
   where
-    go : (t : Bool) → eqb b IAC ≡ t → judged (last_read [] b) ≡ Copied
+    go : (t : Bool) → eqb b IAC ≡ t → judged (last_read [] b) ≡ Ok tt
     go true e = absurd (false≢true (rw e at w.ends))
     go false e = rw e
 
-pub dropped_two : (begun : List ℕ) (b : ℕ) (reason : Reason) → Whole begun b → judged (last_read begun b) ≡ Dropped reason → 2 ≤ length (begun ++ b ∷ [])
+pub dropped_two : (begun : List ℕ) (b : ℕ) (reason : Reason) → Whole begun b → judged (last_read begun b) ≡ Err reason → 2 ≤ length (begun ++ b ∷ [])
 dropped_two [] b reason w e = let z : ◌≡◌ {A = ℕ} 0 1 = cc (single_copied b w) in omega arith
 dropped_two (x ∷ xs) b reason w e = simp length-append (omega arith)
 

@@ -1,12 +1,11 @@
 -- A capture mended: the pieces that are copied, and a line for each that is dropped.
-use Rattle.std.specs.Prelude.{Bool, ◌||◌, cond, ℕ, ◌+◌, ◌*◌, length, ltb}
+use Rattle.std.specs.Prelude.{Bool, ◌||◌, cond, ℕ, ◌+◌, ◌*◌, length, ltb, Ok, Err}
 use mathlib.Core.List.{List, [], ◌∷◌, ◌++◌, flat_map}
 use Rattle.codes.specs.Telnet.{SPACE, LF}
 use Rattle.decimals.specs.Decimals.{number_then}
 use Rattle.mending.specs.declared.Reason.{Reason}
 use Rattle.mending.specs.declared.Reason.TheVariants.{Unreadable, Stray, Unfinished}
-use Rattle.mending.specs.declared.Judged.{Judged}
-use Rattle.mending.specs.declared.Judged.TheVariants.{Copied, Dropped}
+use Rattle.mending.specs.Judging.{Judged}
 use Rattle.mending.specs.declared.Outcome.{Outcome}
 use Rattle.mending.specs.declared.Outcome.TheVariants.{Mended, TooLong, NoRoom}
 use Rattle.mending.specs.Pieces.{Piece, pieces_of}
@@ -18,12 +17,12 @@ pub record Drop : Type 0 where
   pub reason : Reason
 
 abbrev pub copied_of : List ℕ → Judged → List ℕ
-copied_of bytes Copied = bytes
-copied_of bytes (Dropped reason) = []
+copied_of bytes (Ok u) = bytes
+copied_of bytes (Err reason) = []
 
 abbrev pub drop_of : (offset size : ℕ) → Judged → List Drop
-drop_of offset size Copied = []
-drop_of offset size (Dropped reason) = record { offset = offset; size = size; reason = reason } ∷ []
+drop_of offset size (Ok u) = []
+drop_of offset size (Err reason) = record { offset = offset; size = size; reason = reason } ∷ []
 
 abbrev pub bytes_of : Piece → List ℕ
 bytes_of p = p.bytes

@@ -1,23 +1,21 @@
 -- What the scanners owe to the rules.
-use Rattle.std.specs.Prelude.{◌≡◌, cond, ℕ, zero, suc, ◌-◌, ◌+◌, length, take}
+use Rattle.std.specs.Prelude.{◌≡◌, cond, ℕ, zero, suc, ◌-◌, ◌+◌, length, take, Err}
 use mathlib.Core.List.{List, [], ◌∷◌, ◌++◌, flat_map}
 use Rattle.lists.specs.Fronts.{front}
 use Rattle.lists.specs.Buffers.{Lent, WroteAtStart}
 use Rattle.codes.specs.Telnet.{not_iac}
 use Rattle.reader.specs.Reading.{ReaderState, idle, read, is_between}
 use Rattle.mending.specs.declared.Reason.TheVariants.{Unfinished}
-use Rattle.mending.specs.declared.Judged.{Judged}
-use Rattle.mending.specs.declared.Judged.TheVariants.{Dropped}
 use Rattle.mending.specs.declared.Found.{Found}
 use Rattle.mending.specs.declared.Scanned.{Scanned}
 use Rattle.mending.specs.declared.Answer.{Answer}
-use Rattle.mending.specs.Judging.{judged}
+use Rattle.mending.specs.Judging.{Judged, judged}
 use Rattle.mending.specs.Pieces.{Piece, pieces_of}
 use Rattle.mending.specs.Mending.{bytes_of, copied, copied_of, drop_of, drops_at, lines_of, MendEffect}
 
 -- the first piece, of which n bytes are read already
 unfoldable pub found_from : ReaderState → ℕ → List ℕ → Found
-found_from r n [] = record { size = n; judged = Dropped Unfinished }
+found_from r n [] = record { size = n; judged = Err Unfinished }
 found_from r n (b ∷ bs) =
     let x = read r b in
     cond (is_between x.reader.phase) (record { size = suc n; judged = judged x }) (found_from x.reader (suc n) bs)
@@ -60,6 +58,10 @@ abbrev pub piece_scan : ℕ → List ℕ → Scan
 piece_scan at rest =
     let f = first_found rest in
     record { taken = f.size; bytes = copied_of (take f.size rest) f.judged; lines = piece_lines at f.size f.judged }
+
+-- what two scans took and wrote, one behind the other
+abbrev pub both_scanned : Scanned → Scanned → Scanned
+both_scanned p s = record { taken = p.taken + s.taken; written = p.written + s.written; listed = p.listed + s.listed }
 
 pub record RefinesScan (s : Scan) (out list : Lent) (r : Scanned) : Type 0 where
   pub taken : r.taken ≡ s.taken

@@ -1,11 +1,11 @@
 // Mending a capture of the line toward the printer: what a printer end could not read is dropped, the rest is copied.
 #![tactic(auto)]
 
-ghost use Rattle.std.specs.Prelude.{length, ◌≡◌, ◌≤◌};
+ghost use Rattle.std.specs.Prelude.{length, ◌≡◌, ◌≤◌, ◌<◌, ◌+◌, ◌^◌};
 ghost use Rattle.lists.specs.Buffers.{lent, RoomFor};
 ghost use Rattle.mending.specs.Mending.{capture_room, mends_to, mended, drops, lines_of, lacks_room, mend_call};
 ghost use Rattle.mending.specs.declared.Outcome.TheVariants.{Mended};
-ghost use Rattle.mending.specs.Refinement.{RefinesAnswer};
+ghost use Rattle.mending.specs.Refinement.{both_scanned, RefinesAnswer};
 
 mod judging;
 mod lines;
@@ -30,17 +30,11 @@ pub enum Reason {
     Unfinished,
 }
 
-#[derive(Clone, Copy)]
-pub enum Judged {
-    Copied,
-    Dropped(Reason),
-}
-
-// The first piece of what is left of a capture: a byte of text, or a command.
+// The first piece of what is left of a capture, a byte of text or a command: it is copied, or dropped.
 #[derive(Clone, Copy)]
 pub struct Found {
     pub size: usize,
-    pub judged: Judged,
+    pub judged: Result<(), Reason>,
 }
 
 // What a scan took of the capture, and wrote to the two buffers.
@@ -51,6 +45,22 @@ pub struct Scanned {
     pub listed: usize,
 }
 
+impl Scanned {
+    // Two scans, the second of what is behind the first.
+    fn then(self, next: Scanned) -> Scanned
+        requires taken_fits { self.taken + next.taken < 2 ^ 64 }
+        requires written_fits { self.written + next.written < 2 ^ 64 }
+        requires listed_fits { self.listed + next.listed < 2 ^ 64 }
+        ensures { result ≡ both_scanned self next }
+    {
+        Scanned {
+            taken: self.taken + next.taken,
+            written: self.written + next.written,
+            listed: self.listed + next.listed,
+        }
+    }
+}
+
 // A capture is mended unless it is too long, or a buffer is under its room.
 #[derive(Clone, Copy)]
 pub enum Outcome {
@@ -59,6 +69,7 @@ pub enum Outcome {
     NoRoom,
 }
 
+// No Result: a refusal has its counts too, since `too long` stands in the list.
 #[derive(Clone, Copy)]
 pub struct Answer {
     pub outcome: Outcome,
@@ -73,25 +84,25 @@ fn mend_parts(capture: &[u8], out: &mut [u8], list: &mut [u8]) -> Answer
     requires room_for_2 { RoomFor (lines_of (drops capture.now)) list.old }
     ensures { RefinesAnswer (mends_to Mended (mended capture.now) (lines_of (drops capture.now))) (lent out) (lent list) result }
 {
-    let mut at: usize = 0;
-    let mut written: usize = 0;
-    let mut listed: usize = 0;
-    while at < capture.len() {
-        let s = scanning::scan_text(
-            &capture[at..],
-            at,
+    let mut done = Scanned {
+        taken: 0,
+        written: 0,
+        listed: 0,
+    };
+    // by as much as a scan took, which no iterator knows before it
+    while done.taken < capture.len() {
+        done = done.then(scanning::scan_text(
+            &capture[done.taken..],
+            done.taken,
             PART,
-            &mut out[written..],
-            &mut list[listed..],
-        );
-        at += s.taken;
-        written += s.written;
-        listed += s.listed;
+            &mut out[done.written..],
+            &mut list[done.listed..],
+        ));
     }
     Answer {
         outcome: Outcome::Mended,
-        written,
-        listed,
+        written: done.written,
+        listed: done.listed,
     }
 }
 
@@ -103,6 +114,7 @@ fn lacks_room(out: usize, list: usize) -> bool
 }
 
 // The mended capture at the start of one buffer, and at the start of the other a line for each drop, or `too long`.
+#[tactic(auto, using(crate::proofs::Fits::mending_fits), unfolding(crate::specs::Mending::mend_call))]
 pub fn mend(capture: &[u8], out: &mut [u8], list: &mut [u8]) -> Answer
     ensures { RefinesAnswer (mend_call capture.now (length out.old) (length list.old)) (lent out) (lent list) result }
 {

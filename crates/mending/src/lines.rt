@@ -5,16 +5,18 @@ ghost use Rattle.codes.specs.Telnet.{LF};
 ghost use Rattle.mending.specs.Mending.{reason_mark, drop_line};
 ghost use Rattle.mending.specs.Refinement.{piece_lines};
 
-use crate::{Judged, Reason};
+use crate::Reason;
 use codes::{LF, SPACE};
 
-fn reason_mark(reason: Reason) -> u8
-    ensures { result ≡ reason_mark reason }
-{
-    match reason {
-        Reason::Unreadable => b'1',
-        Reason::Stray => b'4',
-        Reason::Unfinished => b'E',
+impl From<Reason> for u8 {
+    ghost from_gives = { λ reason n. n ≡ reason_mark reason };
+
+    fn from(reason: Reason) -> u8 {
+        match reason {
+            Reason::Unreadable => b'1',
+            Reason::Stray => b'4',
+            Reason::Unfinished => b'E',
+        }
     }
 }
 
@@ -23,10 +25,7 @@ fn put_reason(reason: Reason, list: &mut [u8]) -> usize
     requires { RoomFor (reason_mark reason ∷ LF ∷ []) list.old }
     ensures { WroteAtStart (reason_mark reason ∷ LF ∷ []) (lent list) result }
 {
-    let letter = reason_mark(reason);
-    list[0] = letter;
-    list[1] = LF;
-    2
+    wire::put_bytes(&[u8::from(reason), LF], list)
 }
 
 // `offset size reason`
@@ -40,12 +39,12 @@ fn put_line(offset: usize, size: usize, reason: Reason, list: &mut [u8]) -> usiz
 }
 
 // The line of a piece, if it is dropped.
-pub fn put_drop(offset: usize, size: usize, judged: Judged, list: &mut [u8]) -> usize
+pub fn put_drop(offset: usize, size: usize, judged: Result<(), Reason>, list: &mut [u8]) -> usize
     requires { RoomFor (piece_lines offset size judged) list.old }
     ensures { WroteAtStart (piece_lines offset size judged) (lent list) result }
 {
     match judged {
-        Judged::Copied => 0,
-        Judged::Dropped(reason) => put_line(offset, size, reason, list),
+        Ok(()) => 0,
+        Err(reason) => put_line(offset, size, reason, list),
     }
 }

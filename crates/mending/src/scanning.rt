@@ -6,26 +6,23 @@ ghost use Rattle.codes.specs.Telnet.{not_iac};
 ghost use Rattle.mending.specs.Mending.{capture_room, copied_of};
 ghost use Rattle.mending.specs.Refinement.{run_of, piece_scan, part_scan, RefinesScan};
 
-use crate::{Judged, Scanned, lines, pieces};
+use crate::{Found, Reason, Scanned, lines, pieces};
 
 // How far the text at the front goes, of so many bytes at most.
 fn text_within(rest: &[u8], part: usize) -> usize
     ensures { result ≡ front not_iac (take part rest.now) }
 {
-    if part < rest.len() {
-        return reader::text_front(&rest[..part]);
-    }
-    reader::text_front(rest)
+    reader::text_front(&rest[..part.min(rest.len())])
 }
 
 // A piece, if it is copied.
-fn put_copied(piece: &[u8], judged: Judged, out: &mut [u8]) -> usize
+fn put_copied(piece: &[u8], judged: Result<(), Reason>, out: &mut [u8]) -> usize
     requires { RoomFor (copied_of piece.now judged) out.old }
     ensures { WroteAtStart (copied_of piece.now judged) (lent out) result }
 {
     match judged {
-        Judged::Copied => wire::put_bytes(piece, out),
-        Judged::Dropped(_) => 0,
+        Ok(()) => wire::put_bytes(piece, out),
+        Err(_) => 0,
     }
 }
 
@@ -45,9 +42,7 @@ fn put_piece(rest: &[u8], at: usize, out: &mut [u8], list: &mut [u8]) -> Scanned
     requires room_for_2 { RoomFor (piece_scan at rest.now).lines list.old }
     ensures { RefinesScan (piece_scan at rest.now) (lent out) (lent list) result }
 {
-    let found = pieces::first_found(rest);
-    let size = found.size;
-    let judged = found.judged;
+    let Found { size, judged } = pieces::first_found(rest);
     let written = put_copied(&rest[..size], judged, out);
     let listed = lines::put_drop(at, size, judged, list);
     Scanned {
@@ -67,19 +62,15 @@ pub fn scan_text(rest: &[u8], at: usize, part: usize, out: &mut [u8], list: &mut
     ensures { RefinesScan (part_scan at part rest.now) (lent out) (lent list) result }
 {
     let n = put_run(rest, part, out);
+    let run = Scanned {
+        taken: n,
+        written: n,
+        listed: 0,
+    };
     if n == part || n == rest.len() {
-        return Scanned {
-            taken: n,
-            written: n,
-            listed: 0,
-        };
+        return run;
     }
-    let s = scan_command(&rest[n..], at + n, part - n, &mut out[n..], list);
-    Scanned {
-        taken: n + s.taken,
-        written: n + s.written,
-        listed: s.listed,
-    }
+    run.then(scan_command(&rest[n..], at + n, part - n, &mut out[n..], list))
 }
 
 // The same where a command stands at the front.
@@ -93,22 +84,14 @@ fn scan_command(rest: &[u8], at: usize, part: usize, out: &mut [u8], list: &mut 
     ensures { RefinesScan (part_scan at part rest.now) (lent out) (lent list) result }
 {
     let p = put_piece(rest, at, out, list);
-    let taken = p.taken;
-    let written = p.written;
-    let listed = p.listed;
-    if part <= taken {
+    if part <= p.taken {
         return p;
     }
-    let s = scan_text(
-        &rest[taken..],
-        at + taken,
-        part - taken,
-        &mut out[written..],
-        &mut list[listed..],
-    );
-    Scanned {
-        taken: taken + s.taken,
-        written: written + s.written,
-        listed: listed + s.listed,
-    }
+    p.then(scan_text(
+        &rest[p.taken..],
+        at + p.taken,
+        part - p.taken,
+        &mut out[p.written..],
+        &mut list[p.listed..],
+    ))
 }

@@ -4,12 +4,12 @@ use mathlib.Core.Bool.{Bool, true, false, ◌||◌, ◌&&◌, not, or_comm, or-t
 use Rattle.negotiation.specs.declared.OptionState.{OptionState}
 use Rattle.negotiation.specs.declared.OptionState.TheVariants.{No, Yes, WantNo, WantNoOpposite, WantYes, WantYesOpposite}
 use Rattle.negotiation.specs.declared.Reply.{Reply}
-use Rattle.negotiation.specs.declared.Asked.TheVariants.{Already, Moves}
 use Rattle.negotiation.specs.declared.Side.TheVariants.{Echo, BulletinSga, Rcte, Macro, PrinterSga, Disposes, Uncarried}
 use Rattle.negotiation.specs.declared.Side.{Side}
 use Rattle.negotiation.specs.declared.Sides.{Sides}
 use Rattle.negotiation.specs.declared.Turn.{Turn}
-use Rattle.negotiation.specs.Table.{is_no, heard, asked}
+use Rattle.std.specs.Prelude.{Some, None}
+use Rattle.negotiation.specs.Table.{to, is_no, heard, asked}
 use Rattle.negotiation.specs.Carried.{state_of, moved, may_enable, clashes, asked_side, asked_enable, asked_by, asking_of}
 use Rattle.negotiation.specs.Apart.{Apart, StayApart}
 use Rattle.negotiation.specs.Apart.Reached.{first, hears, asks}
@@ -32,13 +32,13 @@ heard_keeps true false q e = rw (at_no q (sym (or-false (is_no q)) ∙ e))
 heard_keeps false false q e = rw (at_no q (sym (or-false (is_no q)) ∙ e))
 
 asked_keeps : (enable clear : Bool) (q next : OptionState) (r : Reply) → (is_no q || clear) ≡ true
-    → (enable && is_no q && not clear) ≡ false → asked enable q ≡ Moves next r → (is_no next || clear) ≡ true
+    → (enable && is_no q && not clear) ≡ false → asked enable q ≡ Some (to next r) → (is_no next || clear) ≡ true
 unfolding asked
 asked_keeps enable true q next r e clash moves = or-true (is_no next)
 asked_keeps true false q next r e clash moves = absurd (true≢false (rw (at_no q (sym (or-false (is_no q)) ∙ e)) at clash))
 asked_keeps false false q next r e clash moves =
     let no : q ≡ No = at_no q (sym (or-false (is_no q)) ∙ e) in
-    let never : Already ≡ Moves next r = rw no at moves in
+    let never : None ≡ Some (to next r) = rw no at moves in
     cc
 
 -- what is received of a side, whichever it is
@@ -55,7 +55,7 @@ heard_apart s Uncarried enable e = e
 
 -- and an ask that is not refused
 asked_apart : (s : Sides) (side : Side) (enable : Bool) (q : OptionState) (r : Reply) → Apart s → clashes s side enable ≡ false
-    → asked enable (state_of s side) ≡ Moves q r → Apart (moved s side q)
+    → asked enable (state_of s side) ≡ Some (to q r) → Apart (moved s side q)
 unfolding clashes
 asked_apart s Echo enable q r e clash moves = asked_keeps enable (is_no s.rcte) s.echo q r e clash moves
 asked_apart s BulletinSga enable q r e clash moves = e

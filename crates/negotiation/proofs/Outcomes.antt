@@ -2,6 +2,7 @@
 use mathlib.Core.Path.{◌≡◌, refl, sym}
 use mathlib.Core.Bool.{Bool, true, false, not, false≢true, cond}
 use Prim.Native.Nat.{ℕ}
+use Rattle.std.specs.Prelude.{Option, Some, None, Result, Ok, Err, ok_or}
 use Rattle.lists.proofs.Lengths.{chosen, either}
 use Rattle.codes.specs.Answers.{guarded}
 use Rattle.codes.specs.Telnet.{whose_of, enables}
@@ -15,12 +16,10 @@ use Rattle.negotiation.specs.declared.Side.{Side}
 use Rattle.negotiation.specs.declared.Side.TheVariants.{Echo, BulletinSga, Rcte, Macro, PrinterSga, Disposes, Uncarried}
 use Rattle.negotiation.specs.declared.OptionState.TheVariants.{No}
 use Rattle.negotiation.specs.declared.Sides.{Sides}
-use Rattle.negotiation.specs.declared.Asked.{Asked}
-use Rattle.negotiation.specs.declared.Asked.TheVariants.{Already, Moves}
-use Rattle.negotiation.specs.declared.Asking.{Asking}
+use Rattle.negotiation.specs.declared.Move.{Move}
 use Rattle.negotiation.specs.declared.Turn.{Turn}
 use Rattle.negotiation.specs.Table.{to, heard, asked, is_already}
-use Rattle.negotiation.specs.Carried.{carried_side, is_carried, clashes, state_of, may_enable, declined, turned, heard_by, as_moves, asking_of, asked_by}
+use Rattle.negotiation.specs.Carried.{carried_side, is_carried, clashes, state_of, may_enable, declined, turned, heard_by, asking_of, asked_by}
 
 uncarried : (side : Side) → is_carried side ≡ false → side ≡ Uncarried
 uncarried Echo e = absurd (false≢true (sym e))
@@ -48,22 +47,22 @@ heard_cases P end s v option carries declines = go (is_carried side) refl
     go false e = rw (uncarried side e) declines
 
 -- an ask is refused, or moves a side that it does not clash with
-module _ (P : Asking → Type 0) (s : Sides) (side : Side) (enable : Bool) where
-  pub asking_cases : ((c : Code) → P (Asking.Refused c))
-      → ((q : OptionState) (r : Reply) → clashes s side enable ≡ false → asked enable (state_of s side) ≡ Moves q r → P (Asking.Moves q r))
+module _ (P : Result Move Code → Type 0) (s : Sides) (side : Side) (enable : Bool) where
+  pub asking_cases : ((c : Code) → P (Err c))
+      → ((q : OptionState) (r : Reply) → clashes s side enable ≡ false → asked enable (state_of s side) ≡ Some (to q r) → P (Ok (to q r)))
       → P (asking_of s side enable)
   unfolding asking_of guarded
   asking_cases refuses goes =
       either P (not (is_carried side)) (refuses _)
       (chosen P (clashes s side enable) (λ c. refuses _) (λ c. last (asked enable (state_of s side)) refl c))
     where
-      last : (a : Asked) → asked enable (state_of s side) ≡ a → clashes s side enable ≡ false → P (cond (is_already a) (Asking.Refused AlreadySo) (as_moves a))
-      last Already e c = refuses _
-      last (Moves q r) e c = goes q r c e
+      last : (a : Option Move) → asked enable (state_of s side) ≡ a → clashes s side enable ≡ false → P (cond (is_already a) (Err AlreadySo) (ok_or a AlreadySo))
+      last None e c = refuses _
+      last (Some m) e c = goes m.next m.reply c e
 
 -- .. and so of what an end does by it
 module _ {A : Type 0} (P : A → Type 0) (s : Sides) (side : Side) (enable : Bool) (refused : Code → A) (moves : OptionState → Reply → A) where
   pub asked_cases : ((c : Code) → P (refused c))
-      → ((q : OptionState) (r : Reply) → clashes s side enable ≡ false → asked enable (state_of s side) ≡ Moves q r → P (moves q r))
+      → ((q : OptionState) (r : Reply) → clashes s side enable ≡ false → asked enable (state_of s side) ≡ Some (to q r) → P (moves q r))
       → P (asked_by refused moves (asking_of s side enable))
-  asked_cases refuses goes = asking_cases (λ (a : Asking). P (asked_by refused moves a)) s side enable refuses goes
+  asked_cases refuses goes = asking_cases (λ (a : Result Move Code). P (asked_by refused moves a)) s side enable refuses goes

@@ -1,10 +1,10 @@
 -- Which sides each end carries, and when a request is agreed.
-use Rattle.std.specs.Prelude.{Bool, true, false, ◌&&◌, not, cond, List, [], ◌∷◌, ℕ, ◌%◌, ltb, eqb}
+use Rattle.std.specs.Prelude.{Bool, true, false, ◌&&◌, not, cond, List, [], ◌∷◌, ℕ, ◌%◌, ltb, eqb, Result, Ok, Err, ok_or}
 use Rattle.codes.specs.Answers.{Guard, refused_if, guarded}
 use Rattle.codes.specs.declared.Code.{Code}
 use Rattle.codes.specs.declared.Code.TheVariants.{NotCarried, AlreadySo, EchoAgainstRcte}
 use Rattle.codes.specs.Telnet.{ECHO, SGA, RCTE, BM, other_side, whose_of, enables}
-use Rattle.codes.specs.Dispositions.{disposition_numbered, of_disposition, Each, entry_of, with_entry, for_each}
+use Rattle.codes.specs.Dispositions.{disposition_numbered, of_disposition, entry_of, with_entry, for_each}
 use Rattle.codes.specs.declared.Disposition.{Disposition}
 use Rattle.wire.specs.Frames.{negotiation}
 use Rattle.codes.specs.declared.Verb.{Verb}
@@ -19,12 +19,8 @@ use Rattle.negotiation.specs.declared.Reply.{Reply}
 use Rattle.negotiation.specs.declared.Reply.TheVariants.{Silent, Positive, Negative}
 use Rattle.negotiation.specs.declared.Side.{Side}
 use Rattle.negotiation.specs.declared.Side.TheVariants.{Echo, BulletinSga, Rcte, Macro, PrinterSga, Disposes, Uncarried}
-use Rattle.negotiation.specs.declared.DispositionStates.{DispositionStates}
 use Rattle.negotiation.specs.declared.Sides.{Sides}
-use Rattle.negotiation.specs.declared.Heard.{Heard}
-use Rattle.negotiation.specs.declared.Asked.{Asked}
-use Rattle.negotiation.specs.declared.Asked.TheVariants.{Already, Moves}
-use Rattle.negotiation.specs.declared.Asking.{Asking}
+use Rattle.negotiation.specs.declared.Move.{Move}
 use Rattle.negotiation.specs.declared.Turn.{Turn}
 use Rattle.negotiation.specs.Table.{to, is_no, is_yes, is_yes_or_ending, heard, asked, is_already}
 
@@ -51,26 +47,13 @@ is_carried PrinterSga = true
 is_carried (Disposes d) = true
 is_carried Uncarried = false
 
--- the state of an option about output disposition
-abbrev pub each_state : DispositionStates → Each OptionState
-each_state s = record { naocrd = s.naocrd; naolfd = s.naolfd; naoffd = s.naoffd; naohtd = s.naohtd }
-
-abbrev pub states_from : Each OptionState → DispositionStates
-states_from e = record { naocrd = e.naocrd; naolfd = e.naolfd; naoffd = e.naoffd; naohtd = e.naohtd }
-
-abbrev pub disposition_state : DispositionStates → Disposition → OptionState
-disposition_state s d = entry_of (each_state s) d
-
-abbrev pub with_disposition_state : DispositionStates → Disposition → OptionState → DispositionStates
-with_disposition_state s d q = states_from (with_entry (each_state s) d q)
-
 abbrev pub state_of : Sides → Side → OptionState
 state_of s Echo = s.echo
 state_of s BulletinSga = s.sga
 state_of s Rcte = s.rcte
 state_of s Macro = s.bm
 state_of s PrinterSga = s.printersga
-state_of s (Disposes d) = disposition_state s.dispositions d
+state_of s (Disposes d) = entry_of s.dispositions d
 state_of s Uncarried = No
 
 abbrev pub moved : Sides → Side → OptionState → Sides
@@ -85,7 +68,7 @@ moved s (Disposes d) q = record {
   rcte = s.rcte;
   bm = s.bm;
   printersga = s.printersga;
-  dispositions = with_disposition_state s.dispositions d q;
+  dispositions = with_entry s.dispositions d q;
 }
 moved s Uncarried q = s
 
@@ -96,7 +79,7 @@ all_no = record {
   rcte = No;
   bm = No;
   printersga = No;
-  dispositions = states_from (for_each (λ d. No));
+  dispositions = for_each (λ d. No);
 }
 
 -- ECHO is not agreed or asked for while RCTE is away from NO, nor the reverse
@@ -136,11 +119,11 @@ macros_in_force Printer s = is_yes_or_ending s.bm
 macros_in_force Bulletin s = is_yes s.bm
 
 abbrev pub disposition_in_force : Sides → Disposition → Bool
-disposition_in_force s d = is_yes (disposition_state s.dispositions d)
+disposition_in_force s d = is_yes (entry_of s.dispositions d)
 
 -- what a negotiation received comes to: a carried side follows the table; of an uncarried option a request is declined
-abbrev pub turned : Whose → Side → Heard → Turn
-turned whose side h = record { side = side; next = h.next; whose = whose; reply = h.reply }
+abbrev pub turned : Whose → Side → Move → Turn
+turned whose side m = record { side = side; next = m.next; whose = whose; reply = m.reply }
 
 abbrev pub heard_of : Sides → Whose → Side → Bool → Turn
 heard_of s whose side enable =
@@ -169,14 +152,10 @@ ask_guards sides side enable =
     ∷ []
 
 -- what an ask comes to
-abbrev pub as_moves : Asked → Asking
-as_moves Already = Asking.Refused AlreadySo
-as_moves (Moves q r) = Asking.Moves q r
-
-unfoldable pub asking_of : Sides → Side → Bool → Asking
-asking_of sides side enable = guarded (ask_guards sides side enable) Asking.Refused (as_moves (asked enable (state_of sides side)))
+unfoldable pub asking_of : Sides → Side → Bool → Result Move Code
+asking_of sides side enable = guarded (ask_guards sides side enable) Err (ok_or (asked enable (state_of sides side)) AlreadySo)
 
 -- .. by what an end does with a refusal and with a side that moves
-abbrev pub asked_by : {A : Type 0} → (Code → A) → (OptionState → Reply → A) → Asking → A
-asked_by refused moves (Asking.Refused c) = refused c
-asked_by refused moves (Asking.Moves q r) = moves q r
+abbrev pub asked_by : {A : Type 0} → (Code → A) → (OptionState → Reply → A) → Result Move Code → A
+asked_by refused moves (Err c) = refused c
+asked_by refused moves (Ok m) = moves m.next m.reply

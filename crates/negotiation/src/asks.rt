@@ -3,10 +3,11 @@ ghost use Rattle.std.specs.Prelude.{◌≡◌};
 ghost use Rattle.lists.specs.Buffers.{lent, WroteAtStart, RoomFor};
 ghost use Rattle.negotiation.specs.Carried.{reply_verb, reply_bytes, declined, asked_side, asked_whose, asked_enable, asking_of, heard_by};
 
-use crate::{Asked, Asking, End, OptionState, Reply, Side, Sides, Turn, carried, table};
+use crate::{End, Move, OptionState, Reply, Side, Sides, Turn, carried, table};
 use codes::{Code, Verb, Whose};
 
-// The side that a way of asking names: 0 and 1 disable and enable his, 2 and 3 ours.
+// The side that a way of asking names: 0 and 1 disable and enable his, 2 and 3 ours. It is a number, for hosts ask by it in C, and tapes
+// have it.
 pub fn asked_whose(way: u8) -> Whose
     ensures { result ≡ asked_whose way }
 {
@@ -20,6 +21,7 @@ pub fn asked_enable(way: u8) -> bool
 }
 
 // A way over 3 names no side.
+#[tactic(auto, unfolding(crate::specs::Carried::asked_side))]
 pub fn asked_side(end: End, option: u8, way: u8) -> Side
     ensures { result ≡ asked_side end option way }
 {
@@ -30,20 +32,17 @@ pub fn asked_side(end: End, option: u8, way: u8) -> Side
 }
 
 // What an ask about a side comes to, its refusals in their order.
-pub fn asking_of(sides: Sides, side: Side, enable: bool) -> Asking
+#[tactic(auto, unfolding(crate::specs::Carried::asking_of, codes::specs::Answers::guarded))]
+pub fn asking_of(sides: Sides, side: Side, enable: bool) -> Result<Move, Code>
     ensures { result ≡ asking_of sides side enable }
 {
     if !carried::is_carried(side) {
-        return Asking::Refused(Code::NotCarried);
+        return Err(Code::NotCarried);
     }
     if carried::clashes(sides, side, enable) {
-        return Asking::Refused(Code::EchoAgainstRcte);
+        return Err(Code::EchoAgainstRcte);
     }
-    let asked = table::ask(enable, carried::state_of(sides, side));
-    match asked {
-        Asked::Already => Asking::Refused(Code::AlreadySo),
-        Asked::Moves(q, reply) => Asking::Moves(q, reply),
-    }
+    table::ask(enable, carried::state_of(sides, side)).ok_or(Code::AlreadySo)
 }
 
 // The answer to a negotiation of an uncarried option: a request is declined, a withdrawal gets nothing.
@@ -51,34 +50,32 @@ fn declined(enable: bool) -> Reply
     ensures { result ≡ declined enable }
 {
     if enable {
-        return Reply::Negative;
+        Reply::Negative
+    } else {
+        Reply::Silent
     }
-    Reply::Silent
 }
 
 // WILL, WONT, DO or DONT of an option, received by an end.
+#[tactic(auto, unfolding(crate::specs::Carried::heard_by))]
 pub fn heard_by(end: End, sides: Sides, v: Verb, option: u8) -> Turn
     ensures { result ≡ heard_by end sides v option }
 {
     let whose = codes::whose_of(v);
     let enable = codes::enables(v);
     let side = carried::carried_side(end, whose, option);
-    if carried::is_carried(side) {
+    let Move { next, reply } = if carried::is_carried(side) {
         let agreed = carried::may_enable(sides, side);
-        let h = table::hear(enable, agreed, carried::state_of(sides, side));
-        let next = h.next;
-        let reply = h.reply;
-        return Turn {
-            side,
-            next,
-            whose,
-            reply,
-        };
-    }
-    let reply = declined(enable);
+        table::hear(enable, agreed, carried::state_of(sides, side))
+    } else {
+        Move {
+            next: OptionState::No,
+            reply: declined(enable),
+        }
+    };
     Turn {
         side,
-        next: OptionState::No,
+        next,
         whose,
         reply,
     }
@@ -88,9 +85,11 @@ pub fn heard_by(end: End, sides: Sides, v: Verb, option: u8) -> Turn
 fn reply_verb(w: Whose, enable: bool) -> Verb
     ensures { result ≡ reply_verb w enable }
 {
-    match w {
-        Whose::His => { if enable { Verb::Do } else { Verb::Dont } }
-        Whose::Ours => { if enable { Verb::Will } else { Verb::Wont } }
+    match (w, enable) {
+        (Whose::His, true) => Verb::Do,
+        (Whose::His, false) => Verb::Dont,
+        (Whose::Ours, true) => Verb::Will,
+        (Whose::Ours, false) => Verb::Wont,
     }
 }
 

@@ -1,10 +1,11 @@
 // Option negotiation by RFC 1143: six states a side, what is received and what is asked.
 #![tactic(auto)]
 
-use codes::{Code, Disposition, Whose};
+use codes::{Disposition, Each, Whose};
 
 mod asks;
 mod carried;
+mod numbers;
 mod table;
 
 pub use asks::{asked_enable, asked_side, asked_whose, asking_of, heard_by, put_reply};
@@ -14,14 +15,14 @@ pub use carried::{
 pub use table::{is_yes, is_yes_or_ending};
 
 // The two ends of the line.
-#[derive(Clone, Copy)]
+#[derive(Clone, Copy, PartialEq, Eq)]
 pub enum End {
     Printer,
     Bulletin,
 }
 
 // The state of one side of one option; Opposite marks a queued request.
-#[derive(Clone, Copy)]
+#[derive(Clone, Copy, PartialEq, Eq)]
 pub enum OptionState {
     No,
     Yes,
@@ -32,32 +33,18 @@ pub enum OptionState {
 }
 
 // What the negotiation sends: nothing, the verb that enables (WILL, DO), or the one that disables (WONT, DONT).
-#[derive(Clone, Copy)]
+#[derive(Clone, Copy, PartialEq, Eq)]
 pub enum Reply {
     Silent,
     Positive,
     Negative,
 }
 
-// A negotiation received leads to a state and a reply.
-#[derive(Clone, Copy)]
-pub struct Heard {
+// Where a side goes, and what is sent for it.
+#[derive(Clone, Copy, PartialEq, Eq)]
+pub struct Move {
     pub next: OptionState,
     pub reply: Reply,
-}
-
-// An ask is already so or already asked, or leads to a state and a request.
-#[derive(Clone, Copy)]
-pub enum Asked {
-    Already,
-    Moves(OptionState, Reply),
-}
-
-// What an ask comes to: a refusal (codes 4, 11, 5), or a state and a request.
-#[derive(Clone, Copy)]
-pub enum Asking {
-    Refused(Code),
-    Moves(OptionState, Reply),
 }
 
 // What a negotiation received comes to: the side that it is about, its next state, and the reply.
@@ -69,8 +56,9 @@ pub struct Turn {
     pub reply: Reply,
 }
 
-// A side that is carried, named by the end that performs the option; Uncarried is any other.
-#[derive(Clone, Copy)]
+// A side that is carried, named by the end that performs the option; Uncarried is any other. It is a variant and no Option of
+// a side, since what is heard of it is a turn like any other, which moves nothing: the claim StayApart goes over such turns.
+#[derive(Clone, Copy, PartialEq, Eq)]
 pub enum Side {
     Echo,
     BulletinSga,
@@ -81,15 +69,6 @@ pub enum Side {
     Uncarried,
 }
 
-// The states of the options about output disposition, which the printer end performs.
-#[derive(Clone, Copy)]
-pub struct DispositionStates {
-    pub naocrd: OptionState,
-    pub naolfd: OptionState,
-    pub naoffd: OptionState,
-    pub naohtd: OptionState,
-}
-
 // The states of the nine carried sides: what the bulletin end performs, then what the printer end does.
 #[derive(Clone, Copy)]
 pub struct Sides {
@@ -98,5 +77,5 @@ pub struct Sides {
     pub rcte: OptionState,
     pub bm: OptionState,
     pub printersga: OptionState,
-    pub dispositions: DispositionStates,
+    pub dispositions: Each<OptionState>,
 }

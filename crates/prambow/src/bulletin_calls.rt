@@ -22,6 +22,7 @@ use codes::{Code, Note};
 use negotiation::End;
 use reader::BODY_ROOM;
 use received_macros::ROOM;
+use session_arrays::bulletin_arrays::LentBulletinArrays;
 use session_arrays::{
     Outcome, Reported, RunOutcome, StandingNumbers, bulletin_arrays, bulletin_runs, numbers,
 };
@@ -38,8 +39,17 @@ pub fn prambow_bulletin_fresh_arrays(
 )
     ensures { (lent_bulletin small counts body statuses marks cells issue kept).after ≡ encoded_bulletin fresh_cells }
 {
-    let s = calls::fresh();
-    bulletin_arrays::store(s, small, counts, body, statuses, marks, cells, issue, kept);
+    let mut arrays = LentBulletinArrays {
+        small,
+        counts,
+        body,
+        statuses,
+        marks,
+        cells,
+        issue,
+        kept,
+    };
+    arrays.store(calls::fresh());
 }
 
 pub fn prambow_bulletin_network_byte_arrays(
@@ -57,9 +67,18 @@ pub fn prambow_bulletin_network_byte_arrays(
 ) -> Outcome
     ensures { RefinesOnBulletinArrays (λ t. network_call t b) (lent_bulletin small counts body statuses marks cells issue kept) (lent host) (lent wire) result }
 {
-    let s = bulletin_arrays::decoded(small, counts, body, statuses, marks, cells, issue, kept);
-    let a = calls::network_byte(s, b, host, wire);
-    bulletin_arrays::kept(a, small, counts, body, statuses, marks, cells, issue, kept)
+    let mut arrays = LentBulletinArrays {
+        small,
+        counts,
+        body,
+        statuses,
+        marks,
+        cells,
+        issue,
+        kept,
+    };
+    let a = calls::network_byte(arrays.decoded(), b, host, wire);
+    arrays.kept(a)
 }
 
 // Network bytes one after the other, as `bulletin::calls::network_bytes` reads them. Stops before one that would be refused, and
@@ -89,9 +108,17 @@ pub fn prambow_bulletin_network_bytes_arrays(
             return numbers::run_outcome(Code::Done, Note::Clear, 1, 1, 0);
         }
     }
-    bulletin_runs::read_bytes(
-        small, counts, body, statuses, marks, cells, issue, kept, bytes, host, wire,
-    )
+    let mut arrays = LentBulletinArrays {
+        small,
+        counts,
+        body,
+        statuses,
+        marks,
+        cells,
+        issue,
+        kept,
+    };
+    arrays.read_bytes(bytes, host, wire)
 }
 
 pub fn prambow_bulletin_ask_arrays(
@@ -109,9 +136,18 @@ pub fn prambow_bulletin_ask_arrays(
 ) -> Outcome
     ensures { RefinesOnBulletinArraysWire (λ t. ask_call t option way) (lent_bulletin small counts body statuses marks cells issue kept) (lent wire) result }
 {
-    let s = bulletin_arrays::decoded(small, counts, body, statuses, marks, cells, issue, kept);
-    let a = calls::ask(s, option, way, wire);
-    bulletin_arrays::kept(a, small, counts, body, statuses, marks, cells, issue, kept)
+    let mut arrays = LentBulletinArrays {
+        small,
+        counts,
+        body,
+        statuses,
+        marks,
+        cells,
+        issue,
+        kept,
+    };
+    let a = calls::ask(arrays.decoded(), option, way, wire);
+    arrays.kept(a)
 }
 
 pub fn prambow_bulletin_suggest_arrays(
@@ -129,9 +165,18 @@ pub fn prambow_bulletin_suggest_arrays(
 ) -> Outcome
     ensures { RefinesOnBulletinArraysWire (λ t. suggest_call t option v) (lent_bulletin small counts body statuses marks cells issue kept) (lent wire) result }
 {
-    let s = bulletin_arrays::decoded(small, counts, body, statuses, marks, cells, issue, kept);
-    let a = calls::suggest(s, option, v, wire);
-    bulletin_arrays::kept(a, small, counts, body, statuses, marks, cells, issue, kept)
+    let mut arrays = LentBulletinArrays {
+        small,
+        counts,
+        body,
+        statuses,
+        marks,
+        cells,
+        issue,
+        kept,
+    };
+    let a = calls::suggest(arrays.decoded(), option, v, wire);
+    arrays.kept(a)
 }
 
 pub fn prambow_bulletin_order_arrays(
@@ -150,9 +195,18 @@ pub fn prambow_bulletin_order_arrays(
 ) -> Outcome
     ensures { RefinesOnBulletinArraysWire (λ t. order_call t cmd breaks sends) (lent_bulletin small counts body statuses marks cells issue kept) (lent wire) result }
 {
-    let s = bulletin_arrays::decoded(small, counts, body, statuses, marks, cells, issue, kept);
-    let a = calls::order(s, cmd, breaks, sends, wire);
-    bulletin_arrays::kept(a, small, counts, body, statuses, marks, cells, issue, kept)
+    let mut arrays = LentBulletinArrays {
+        small,
+        counts,
+        body,
+        statuses,
+        marks,
+        cells,
+        issue,
+        kept,
+    };
+    let a = calls::order(arrays.decoded(), cmd, breaks, sends, wire);
+    arrays.kept(a)
 }
 
 pub fn prambow_bulletin_define_arrays(
@@ -170,9 +224,18 @@ pub fn prambow_bulletin_define_arrays(
 ) -> Outcome
     ensures { RefinesOnBulletinArraysWire (λ t. define_call t x text.now) (lent_bulletin small counts body statuses marks cells issue kept) (lent wire) result }
 {
-    let s = bulletin_arrays::decoded(small, counts, body, statuses, marks, cells, issue, kept);
-    let a = calls::define(s, x, text, wire);
-    bulletin_arrays::kept(a, small, counts, body, statuses, marks, cells, issue, kept)
+    let mut arrays = LentBulletinArrays {
+        small,
+        counts,
+        body,
+        statuses,
+        marks,
+        cells,
+        issue,
+        kept,
+    };
+    let a = calls::define(arrays.decoded(), x, text, wire);
+    arrays.kept(a)
 }
 
 pub fn prambow_bulletin_use_macro_arrays(
@@ -189,9 +252,18 @@ pub fn prambow_bulletin_use_macro_arrays(
 ) -> Outcome
     ensures { RefinesOnBulletinArraysWire (λ t. use_call t x) (lent_bulletin small counts body statuses marks cells issue kept) (lent wire) result }
 {
-    let s = bulletin_arrays::decoded(small, counts, body, statuses, marks, cells, issue, kept);
-    let a = calls::use_macro(s, x, wire);
-    bulletin_arrays::kept(a, small, counts, body, statuses, marks, cells, issue, kept)
+    let mut arrays = LentBulletinArrays {
+        small,
+        counts,
+        body,
+        statuses,
+        marks,
+        cells,
+        issue,
+        kept,
+    };
+    let a = calls::use_macro(arrays.decoded(), x, wire);
+    arrays.kept(a)
 }
 
 // The item is a pair of numbers, as a key; one that stands for none is refused with code 3.
@@ -210,10 +282,18 @@ pub fn prambow_bulletin_text_item_arrays(
 ) -> Outcome
     ensures { RefinesOnBulletinArraysWire (λ t. text_call t (key_of_pair kind b)) (lent_bulletin small counts body statuses marks cells issue kept) (lent wire) result }
 {
-    let s = bulletin_arrays::decoded(small, counts, body, statuses, marks, cells, issue, kept);
-    let k = numbers::key_of_pair(kind, b);
-    let a = calls::text_item(s, k, wire);
-    bulletin_arrays::kept(a, small, counts, body, statuses, marks, cells, issue, kept)
+    let mut arrays = LentBulletinArrays {
+        small,
+        counts,
+        body,
+        statuses,
+        marks,
+        cells,
+        issue,
+        kept,
+    };
+    let a = calls::text_item(arrays.decoded(), numbers::key_of_pair(kind, b), wire);
+    arrays.kept(a)
 }
 
 pub fn prambow_bulletin_issue_arrays(
@@ -230,9 +310,18 @@ pub fn prambow_bulletin_issue_arrays(
 ) -> Outcome
     ensures { RefinesOnBulletinArraysWire (λ t. issue_call t n) (lent_bulletin small counts body statuses marks cells issue kept) (lent wire) result }
 {
-    let s = bulletin_arrays::decoded(small, counts, body, statuses, marks, cells, issue, kept);
-    let a = calls::issue(s, n, wire);
-    bulletin_arrays::kept(a, small, counts, body, statuses, marks, cells, issue, kept)
+    let mut arrays = LentBulletinArrays {
+        small,
+        counts,
+        body,
+        statuses,
+        marks,
+        cells,
+        issue,
+        kept,
+    };
+    let a = calls::issue(arrays.decoded(), n, wire);
+    arrays.kept(a)
 }
 
 // How the last DEFINE of a byte stands, and the issue that it kept. It looks at BM's state, the statuses and the issues alone.
@@ -245,20 +334,18 @@ pub fn prambow_bulletin_macro_standing_arrays(
 ) -> StandingNumbers
     ensures { SaysStanding x small.now statuses.now issue.now kept.now result }
 {
-    let sides = bulletin_arrays::sides_in(small);
-    if negotiation::macros_in_force(End::Bulletin, sides) {
-        let status = sent_macros::status_at(statuses, x);
-        let at = x as usize;
+    let present = issue[0];
+    if negotiation::macros_in_force(End::Bulletin, numbers::sides_in(small)) {
         return StandingNumbers {
-            status: sent_macros::status_number(status),
-            kept: kept[at],
-            present: issue[0],
+            status: sent_macros::status_at(statuses, x).into(),
+            kept: kept[x as usize],
+            present,
         };
     }
     StandingNumbers {
         status: 0,
         kept: 0,
-        present: issue[0],
+        present,
     }
 }
 
@@ -266,15 +353,12 @@ pub fn prambow_bulletin_macro_standing_arrays(
 pub fn prambow_bulletin_report_arrays(small: &[u8; 23]) -> Reported
     ensures { ReportsBulletin small.now result }
 {
-    let sides = bulletin_arrays::sides_in(small);
-    let values = bulletin_arrays::values_in(small);
-    numbers::reported(sides, values)
+    disposition::handlings_in(numbers::sides_in(small), numbers::values_in(small, 15)).into()
 }
 
 // Whether output waits: 0 ready, 1 waiting.
 pub fn prambow_bulletin_output_arrays(small: &[u8; 23]) -> u8
     ensures { SaysOutput small.now result }
 {
-    let waits = bulletin_arrays::waits_in(small);
-    numbers::flag_number(disposition::is_waiting(waits))
+    disposition::is_waiting(bulletin_arrays::waits_in(small)).into()
 }

@@ -14,7 +14,8 @@ use printer::calls;
 use rcte::{GATHER_ROOM, WAIT_ROOM};
 use reader::BODY_ROOM;
 use received_macros::ROOM;
-use session_arrays::{Outcome, Reported, RunOutcome, numbers, printer_arrays, printer_runs};
+use session_arrays::printer_arrays::LentPrinterArrays;
+use session_arrays::{Outcome, Reported, RunOutcome, numbers, printer_runs};
 
 pub fn prambow_printer_fresh_arrays(
     small: &mut [u8; 22],
@@ -28,10 +29,17 @@ pub fn prambow_printer_fresh_arrays(
 )
     ensures { (lent_printer small classes counts body marks cells waiting gathered).after ≡ encoded_printer fresh_cells }
 {
-    let s = calls::fresh();
-    printer_arrays::store(
-        s, small, classes, counts, body, marks, cells, waiting, gathered,
-    );
+    let mut arrays = LentPrinterArrays {
+        small,
+        classes,
+        counts,
+        body,
+        marks,
+        cells,
+        waiting,
+        gathered,
+    };
+    arrays.store(calls::fresh());
 }
 
 pub fn prambow_printer_network_byte_arrays(
@@ -49,13 +57,18 @@ pub fn prambow_printer_network_byte_arrays(
 ) -> Outcome
     ensures { RefinesOnPrinterArrays (λ t. network_call t b) (lent_printer small classes counts body marks cells waiting gathered) (lent paper) (lent wire) result }
 {
-    let s = printer_arrays::decoded(
-        small, classes, counts, body, marks, cells, waiting, gathered,
-    );
-    let a = calls::network_byte(s, b, paper, wire);
-    printer_arrays::kept(
-        a, small, classes, counts, body, marks, cells, waiting, gathered,
-    )
+    let mut arrays = LentPrinterArrays {
+        small,
+        classes,
+        counts,
+        body,
+        marks,
+        cells,
+        waiting,
+        gathered,
+    };
+    let a = calls::network_byte(arrays.decoded(), b, paper, wire);
+    arrays.kept(a)
 }
 
 // Network bytes one after the other, as `printer::calls::network_bytes` reads them. Stops before one that would be refused, and
@@ -85,9 +98,17 @@ pub fn prambow_printer_network_bytes_arrays(
             return numbers::run_outcome(Code::Done, Note::Clear, 1, 1, 0);
         }
     }
-    printer_runs::read_bytes(
-        small, classes, counts, body, marks, cells, waiting, gathered, bytes, paper, wire,
-    )
+    let mut arrays = LentPrinterArrays {
+        small,
+        classes,
+        counts,
+        body,
+        marks,
+        cells,
+        waiting,
+        gathered,
+    };
+    arrays.read_bytes(bytes, paper, wire)
 }
 
 // The key is a pair of numbers; one that stands for no key is refused with code 3.
@@ -107,14 +128,18 @@ pub fn prambow_printer_press_arrays(
 ) -> Outcome
     ensures { RefinesOnPrinterArrays (λ t. key_call t (key_of_pair kind b)) (lent_printer small classes counts body marks cells waiting gathered) (lent paper) (lent wire) result }
 {
-    let s = printer_arrays::decoded(
-        small, classes, counts, body, marks, cells, waiting, gathered,
-    );
-    let k = numbers::key_of_pair(kind, b);
-    let a = calls::press(s, k, paper, wire);
-    printer_arrays::kept(
-        a, small, classes, counts, body, marks, cells, waiting, gathered,
-    )
+    let mut arrays = LentPrinterArrays {
+        small,
+        classes,
+        counts,
+        body,
+        marks,
+        cells,
+        waiting,
+        gathered,
+    };
+    let a = calls::press(arrays.decoded(), numbers::key_of_pair(kind, b), paper, wire);
+    arrays.kept(a)
 }
 
 pub fn prambow_printer_ask_arrays(
@@ -133,13 +158,18 @@ pub fn prambow_printer_ask_arrays(
 ) -> Outcome
     ensures { RefinesOnPrinterArrays (λ t. ask_call t option way) (lent_printer small classes counts body marks cells waiting gathered) (lent paper) (lent wire) result }
 {
-    let s = printer_arrays::decoded(
-        small, classes, counts, body, marks, cells, waiting, gathered,
-    );
-    let a = calls::ask(s, option, way, paper, wire);
-    printer_arrays::kept(
-        a, small, classes, counts, body, marks, cells, waiting, gathered,
-    )
+    let mut arrays = LentPrinterArrays {
+        small,
+        classes,
+        counts,
+        body,
+        marks,
+        cells,
+        waiting,
+        gathered,
+    };
+    let a = calls::ask(arrays.decoded(), option, way, paper, wire);
+    arrays.kept(a)
 }
 
 pub fn prambow_printer_suggest_arrays(
@@ -158,28 +188,30 @@ pub fn prambow_printer_suggest_arrays(
 ) -> Outcome
     ensures { RefinesOnPrinterArrays (λ t. suggest_call t option v) (lent_printer small classes counts body marks cells waiting gathered) (lent paper) (lent wire) result }
 {
-    let s = printer_arrays::decoded(
-        small, classes, counts, body, marks, cells, waiting, gathered,
-    );
-    let a = calls::suggest(s, option, v, paper, wire);
-    printer_arrays::kept(
-        a, small, classes, counts, body, marks, cells, waiting, gathered,
-    )
+    let mut arrays = LentPrinterArrays {
+        small,
+        classes,
+        counts,
+        body,
+        marks,
+        cells,
+        waiting,
+        gathered,
+    };
+    let a = calls::suggest(arrays.decoded(), option, v, paper, wire);
+    arrays.kept(a)
 }
 
 // Of each option about output disposition who handles its character, and how. It looks at the small parts alone.
 pub fn prambow_printer_report_arrays(small: &[u8; 22]) -> Reported
     ensures { ReportsPrinter small.now result }
 {
-    let sides = printer_arrays::sides_in(small);
-    let values = printer_arrays::values_in(small);
-    numbers::reported(sides, values)
+    disposition::handlings_in(numbers::sides_in(small), numbers::values_in(small, 14)).into()
 }
 
 // How many keys wait. It looks at the counts alone.
 pub fn prambow_printer_waiting_arrays(counts: &[usize; 3]) -> usize
     ensures { CountsWaiting counts.now result }
 {
-    let count = counts[1];
-    if count < WAIT_ROOM { count } else { WAIT_ROOM }
+    counts[1].min(WAIT_ROOM)
 }

@@ -1,4 +1,5 @@
 -- A body's end, a readable body, and a byte, as the rules' next steps.
+use Rattle.std.specs.Prelude.{Option, Some, None}
 use mathlib.Core.Path.{◌≡◌, refl, sym, ap, ◌∙◌}
 use mathlib.Core.Bool.{Bool, true, false, cond}
 use mathlib.Core.List.{List}
@@ -8,14 +9,13 @@ use lib.ListN.{length, take, drop, length-drop}
 use lib.Seq.{take_all}
 use lib.Dec.{ltb}
 use borrow.Author.Tests.{ltb-false}
-use Rattle.bodies.specs.declared.MacroBody.{MacroBody}
 use Rattle.bodies.specs.declared.MacroCommand.{MacroCommand}
 use Rattle.bodies.specs.MacroBodies.{macro_body}
 use Rattle.reader.specs.declared.Item.{Item}
 use Rattle.reader.specs.declared.Item.TheVariants.{BodyEnd}
 use Rattle.reader.specs.Reading.{ReaderState, idle, read}
 use Rattle.negotiation.specs.declared.End.{End}
-use Rattle.subnegotiation.specs.declared.Checked.{Checked}
+use Rattle.subnegotiation.specs.Checks.{Checked}
 use Rattle.subnegotiation.specs.Checks.{checked}
 use Rattle.printer.specs.State.{PrinterState, with_reader}
 use Rattle.printer.specs.Network.{body_handled, body_read, item_read, byte_read}
@@ -27,11 +27,11 @@ unfolding body_read
 body_end s r c e k = rw (e, k)
 
 -- a readable body of BM has its macro byte
-pub readable_long : (body : List ℕ) (c : MacroCommand) → macro_body body ≡ MacroBody.Readable c → 3 ≤ length body
+pub readable_long : (body : List ℕ) (c : MacroCommand) → macro_body body ≡ Some c → 3 ≤ length body
 unfolding macro_body
 readable_long body c e = go (ltb (length body) 3) refl _ e
   where
-    go : (t : Bool) → ltb (length body) 3 ≡ t → (rest : MacroBody) → cond t MacroBody.Unreadable rest ≡ MacroBody.Readable c → 3 ≤ length body
+    go : (t : Bool) → ltb (length body) 3 ≡ t → (rest : Option MacroCommand) → cond t None rest ≡ Some c → 3 ≤ length body
     go true t rest e = let z : ◌≡◌ {A = ℕ} 0 1 = cc in absurd (omega arith)
     go false t rest e = ltb-false (length body) 3 t
 

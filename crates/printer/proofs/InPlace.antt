@@ -21,6 +21,8 @@ use Rattle.negotiation.specs.Carried.{moved, reply_bytes, heard_by}
 use Rattle.reader.specs.declared.Item.{Item}
 use Rattle.reader.specs.declared.Item.TheVariants.{Nothing, Data, Negotiated, BodyEnd, StrayCommand}
 use Rattle.reader.specs.declared.Phase.{Phase}
+use Rattle.reader.specs.declared.PhaseRead.{PhaseRead}
+use Rattle.std.proofs.Common.{Option, Some, None}
 use Rattle.reader.specs.Phases.{phase_read}
 use Rattle.reader.specs.Reading.{in_phase, byte_by, is_between}
 use Rattle.reader.proofs.PhaseAlone.{phase_alone}
@@ -33,10 +35,10 @@ use Rattle.printer.specs.Network.{data_read, side_moved, moved_with_reply, negot
 use Rattle.printer.specs.Stretches.{is_settled, text_stretch}
 use Rattle.printer.specs.Refinement.{view_printer}
 use Rattle.printer.specs.Limits.{Fits}
-use Rattle.printer.specs.InPlace.{InPlaceEffect, unhandled, prints_in_place, replies_in_place, moves_alone, is_plain_text, text_in_place, turn_in_place, item_in_place, byte_in_place, entry_in_place, may_replace, in_place_read, step_in_place, ReadInPlace, UnhandledStays, InPlaceFits}
+use Rattle.printer.specs.InPlace.{InPlaceEffect, unhandled, prints_in_place, replies_in_place, moves_alone, is_plain_text, text_in_place, turn_in_place, item_in_place, moved_in_place, byte_in_place, entry_in_place, may_replace, in_place_read, step_in_place, ReadInPlace, UnhandledStays, InPlaceFits}
 use Rattle.printer.proofs.Choosing.{plain_read, off_read, inside_read, chosen_read}
 use Rattle.printer.proofs.PlainBytes.{is_settled_in, settled_still, text_stretch_lem}
-use Rattle.printer.proofs.Steps.{followed_nothing}
+use Rattle.printer.specs.NetworkEnd.{followed_nothing}
 use Rattle.printer.proofs.Limits.{network_fits}
 use Rattle.printer.proofs.Views.{sized_view}
 
@@ -82,14 +84,11 @@ module _ (s : PrinterState) (next : Phase) where
 -- a byte read as it stands
 byte_does : (s : PrinterState) (b : ℕ) → Does s (byte_read s b) (byte_in_place s.sides s.reader.phase s.rcte.held b)
 unfolding byte_read byte_in_place
-byte_does s b h =
-    let m = phase_read s.reader.phase b in
-    go m.alone refl h
+byte_does s b h = go (phase_read s.reader.phase b) refl h
   where
-    go : (t : Bool) → (phase_read s.reader.phase b).alone ≡ t
-        → Does s (byte_read s b) (let m = phase_read s.reader.phase b in cond t (item_in_place s.sides s.reader.phase m.phase s.rcte.held m.item) (unhandled s.sides s.reader.phase))
-    go true e k = ap (byte_by with_reader item_read s) (phase_alone s.reader b e) ∙ item_does s (phase_read s.reader.phase b).phase (phase_read s.reader.phase b).item k
-    go false e k = absurd (false≢true k)
+    go : (m : Option PhaseRead) → phase_read s.reader.phase b ≡ m → Does s (byte_read s b) (moved_in_place s.sides s.reader.phase s.rcte.held m)
+    go None e k = absurd (false≢true k)
+    go (Some m) e k = ap (byte_by with_reader item_read s) (phase_alone s.reader b m e) ∙ item_does s m.phase m.item k
 
 -- a text that is plain throughout
 free_text : (s : PrinterState) (t : List ℕ) → is_settled_in s ≡ true → is_plain_text t ≡ true → bytes_read s t ≡ printing t s
@@ -143,7 +142,11 @@ module _ (sides : Sides) (phase : Phase) where
 
   byte_stays : (held : Bool) (b : ℕ) → Stays (byte_in_place sides phase held b)
   unfolding byte_in_place
-  byte_stays held b = let m = phase_read phase b in stays_if m.alone _ (item_stays m.phase held m.item)
+  byte_stays held b = go (phase_read phase b)
+    where
+      go : (m : Option PhaseRead) → Stays (moved_in_place sides phase held m)
+      go None k = refl
+      go (Some m) k = item_stays m.phase held m.item k
 
   pub entry_stays : (held : Bool) (e : Entry) → Stays (entry_in_place sides phase held e)
   unfolding entry_in_place

@@ -1,5 +1,6 @@
 -- What every call of the printer end keeps. A property of its state that turns on the sides and the table alone is kept, if the steps
 -- that change these keep it.
+use Rattle.std.specs.Prelude.{Option, Some, None, Result, Ok, Err}
 use mathlib.Core.Path.{◌≡◌, refl}
 use mathlib.Core.Bool.{Bool, true, ◌&&◌}
 use mathlib.Core.Logic.{⊎_elim}
@@ -17,22 +18,22 @@ use Rattle.codes.specs.declared.Verb.{Verb}
 use Rattle.negotiation.specs.declared.OptionState.{OptionState}
 use Rattle.negotiation.specs.declared.End.{End}
 use Rattle.negotiation.specs.declared.Side.{Side}
-use Rattle.negotiation.specs.declared.Asking.{Asking}
+use Rattle.codes.specs.declared.Code.{Code}
+use Rattle.negotiation.specs.declared.Move.{Move}
 use Rattle.negotiation.specs.Carried.{moved, reply_bytes, asked_side, asked_whose, asked_enable, asking_of, asked_by}
 use Rattle.negotiation.specs.Apart.{Reached}
 use Rattle.negotiation.specs.Apart.Reached.{hears, asks}
 use Rattle.reader.specs.declared.Item.{Item}
 use Rattle.reader.specs.declared.Item.TheVariants.{Nothing, Data, Negotiated, BodyEnd, StrayCommand}
 use Rattle.reader.specs.Reading.{idle, read, is_between}
-use Rattle.bodies.specs.declared.RcteBody.{RcteBody}
-use Rattle.bodies.specs.declared.MacroBody.{MacroBody}
+use Rattle.bodies.specs.declared.RcteCommand.{RcteCommand}
+use Rattle.bodies.specs.declared.MacroCommand.{MacroCommand}
 use Rattle.bodies.specs.declared.MacroCommand.TheVariants.{Define, Literal}
-use Rattle.bodies.specs.declared.ValueBody.{ValueBody}
 use Rattle.bodies.specs.RcteBodies.{rcte_body}
 use Rattle.bodies.specs.MacroBodies.{macro_body, define_rest}
 use Rattle.bodies.specs.ValueBodies.{value_body}
 use Rattle.received_macros.specs.Texts.{Entry, plain, text, entry_of, judged, after_define}
-use Rattle.subnegotiation.specs.declared.Checked.{Checked}
+use Rattle.subnegotiation.specs.Checks.{Checked}
 use Rattle.subnegotiation.proofs.Outcomes.{checked_cases}
 use Rattle.printer.specs.State.{PrinterState, with_reader, with_table, rcte_in_force, bm_in_force, Effect, CallEffect, done, refused}
 use Rattle.printer.specs.Network.{data_read, side_moved, moved_with_reply, negotiation_read, rcte_read, macro_read, value_read, body_handled, body_read, item_read, byte_read, bytes_read, entry_read, network_read}
@@ -60,18 +61,18 @@ module _ (P : PrinterState → Type 0) (k : Steps P) where
     unfolding negotiation_read
     heard_kept v option = k.moves s _ _ (λ r. hears r v option) h
 
-    rcte_kept : (b : RcteBody) → Leaves (rcte_read s b)
-    rcte_kept RcteBody.Unreadable = h
-    rcte_kept (RcteBody.Readable c) = k.others refl refl h
+    rcte_kept : (b : Option RcteCommand) → Leaves (rcte_read s b)
+    rcte_kept None = h
+    rcte_kept (Some c) = k.others refl refl h
 
-    macro_kept : (body : List ℕ) (b : MacroBody) → bm_in_force s ≡ true → Leaves (macro_read s body b)
-    macro_kept body MacroBody.Unreadable on = h
-    macro_kept body (MacroBody.Readable (Define x)) on = k.defines s x (define_rest body) on h
-    macro_kept body (MacroBody.Readable (Literal x)) on = data_kept x
+    macro_kept : (body : List ℕ) (b : Option MacroCommand) → bm_in_force s ≡ true → Leaves (macro_read s body b)
+    macro_kept body None on = h
+    macro_kept body (Some (Define x)) on = k.defines s x (define_rest body) on h
+    macro_kept body (Some (Literal x)) on = data_kept x
 
-    value_kept : (d : Disposition) (b : ValueBody) → Leaves (value_read s d b)
-    value_kept d ValueBody.Unreadable = h
-    value_kept d (ValueBody.Readable v) = k.others refl refl h
+    value_kept : (d : Disposition) (b : Option ℕ) → Leaves (value_read s d b)
+    value_kept d None = h
+    value_kept d (Some v) = k.others refl refl h
 
     body_kept : (marred : Bool) (body : List ℕ) → Leaves (body_read s marred body)
     unfolding body_read
@@ -85,10 +86,10 @@ module _ (P : PrinterState → Type 0) (k : Steps P) where
         side : Side
         side = asked_side End.Printer option way
 
-        go : (a : Asking) → asking_of s.sides side (asked_enable way) ≡ a
+        go : (a : Result Move Code) → asking_of s.sides side (asked_enable way) ≡ a
             → Leaves (asked_by (refused s) (λ q r. done (moved_with_reply s side q (reply_bytes (asked_whose way) r option))) a).effect
-        go (Asking.Refused c) e = h
-        go (Asking.Moves q r) e = k.moves s side q (λ reached. asks reached option way q r e) h
+        go (Err c) e = h
+        go (Ok m) e = k.moves s side m.next (λ reached. asks reached option way m.next m.reply e) h
 
     -- a refusal returns the state that it was given
     guarded_kept : (gs : List Guard) (a : CallEffect) → Leaves a.effect → Leaves (guarded gs (refused s) a).effect

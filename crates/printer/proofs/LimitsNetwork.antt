@@ -1,4 +1,5 @@
 -- A network byte: what it writes is bounded by gathered bytes, waiting keys and the bytes read, and the sizes are kept.
+use Rattle.std.specs.Prelude.{Option, Some, None, Ok, Err}
 use mathlib.Core.Path.{◌≡◌, refl}
 use mathlib.Core.Bool.{Bool, true, false, not, cond}
 use mathlib.Core.List.{List, [], ◌∷◌, flat_map}
@@ -27,23 +28,21 @@ use Rattle.negotiation.specs.Carried.{moved, reply_bytes, heard_by}
 use Rattle.reader.specs.declared.Item.{Item}
 use Rattle.reader.specs.declared.Item.TheVariants.{Nothing, Data, Negotiated, BodyEnd, StrayCommand}
 use Rattle.reader.specs.Reading.{ReaderState, body_room, idle, read, by_option}
-use Rattle.bodies.specs.declared.RcteBody.{RcteBody}
-use Rattle.bodies.specs.declared.MacroBody.{MacroBody}
+use Rattle.bodies.specs.declared.RcteCommand.{RcteCommand}
+use Rattle.bodies.specs.declared.MacroCommand.{MacroCommand}
 use Rattle.bodies.specs.declared.MacroCommand.TheVariants.{Define, Literal}
-use Rattle.bodies.specs.declared.ValueBody.{ValueBody}
 use Rattle.bodies.specs.RcteBodies.{rcte_body}
 use Rattle.bodies.specs.MacroBodies.{macro_body, define_rest}
 use Rattle.bodies.specs.ValueBodies.{value_body}
-use Rattle.received_macros.specs.declared.Verdict.{Verdict}
-use Rattle.received_macros.specs.declared.Verdict.TheVariants.{Accepted, Refused}
-use Rattle.received_macros.specs.Texts.{plain, Table, no_macros, entry_of, is_itself, entry_for, defined, total, text_room, judged_rest, judged, after_define, reason_number, verdict_bytes}
+use Rattle.std.proofs.Common.{Ok, Err}
+use Rattle.received_macros.specs.Texts.{Verdict, plain, Table, no_macros, entry_of, is_itself, entry_for, defined, total, text_room, judged_rest, judged, after_define, reason_number, verdict_bytes}
 use Rattle.rcte.specs.Taking.{gather_room}
 use Rattle.rcte.specs.Control as control
 use Rattle.rcte.specs.Control.{RcteEffect, wait_room, started, holding, commanded, orders_now, rcte_ended}
-use Rattle.disposition.specs.declared.AllValues.{AllValues}
+use Rattle.disposition.specs.ByOption.{AllValues}
 use Rattle.disposition.specs.ByOption.{unspoken, with_ds, values_of, with_values_of}
-use Rattle.subnegotiation.specs.declared.Checked.{Checked}
-use Rattle.subnegotiation.specs.declared.Checked.TheVariants.{Noted}
+use Rattle.subnegotiation.specs.declared.Subject.{Subject}
+use Rattle.subnegotiation.specs.Checks.{Checked}
 use Rattle.subnegotiation.specs.Checks.{option_checked, checked}
 use Rattle.printer.specs.State.{PrinterState, with_sides, with_reader, with_table, with_rcte, with_values, rcte_in_force, echo_in_force, Effect, sends, nothing, notes, printing, of_rcte}
 use Rattle.printer.specs.Network.{data_read, rcte_moved, side_moved, moved_with_reply, negotiation_read, rcte_read, macro_read, value_read, body_handled, body_read, item_read, byte_read, bytes_read}
@@ -179,39 +178,39 @@ defines t x rest i all = either (λ v. AllShort (after_define v t x (drop 1 rest
 
 verdict_long : (v : Verdict) (x : ℕ) → length (verdict_bytes v x) ≤ 10
 unfolding frame flat_map
-verdict_long Accepted x = simp length-append (omega (arith, coded_one BM refl, coded_one ACCEPT refl, coded_long x))
-verdict_long (Refused reason) x = simp length-append (omega (arith, coded_one BM refl, coded_one REFUSE refl, coded_long x, coded_long (reason_number reason)))
+verdict_long (Ok _) x = simp length-append (omega (arith, coded_one BM refl, coded_one ACCEPT refl, coded_long x))
+verdict_long (Err reason) x = simp length-append (omega (arith, coded_one BM refl, coded_one REFUSE refl, coded_long x, coded_long (reason_number reason)))
 
 -- the bodies, of a state s; a reply to one is at most ten bytes
 module _ {H : Type 0} (n : ℕ) (ten : 10 ≤ n) (s : PrinterState) (h : H → Limited s) where
-  rctes : (b : RcteBody) → Step s.rcte s.reader 1 n H (rcte_read s b)
+  rctes : (b : Option RcteCommand) → Step s.rcte s.reader 1 n H (rcte_read s b)
   unfolding commanded
-  rctes RcteBody.Unreadable = noting n s h Unreadable
-  rctes (RcteBody.Readable c) =
+  rctes None = noting n s h Unreadable
+  rctes (Some c) =
       let e = s.rcte in
       rcte_step n s h (commanded e c) (releases (orders_now c e.orders) e.gathered e.waiting)
 
-  macros : (body : List ℕ) (b : MacroBody) → (H → InBytes body) → Step s.rcte s.reader 1 n H (macro_read s body b)
-  macros body MacroBody.Unreadable i = noting n s h Unreadable
-  macros body (MacroBody.Readable (Define x)) i =
+  macros : (body : List ℕ) (b : Option MacroCommand) → (H → InBytes body) → Step s.rcte s.reader 1 n H (macro_read s body b)
+  macros body None i = noting n s h Unreadable
+  macros body (Some (Define x)) i =
       let rest = define_rest body in
       let v = judged s.table x rest in
       let t = after_define v s.table x (drop 1 rest) in
       let bytes : H → InBytes rest = λ y j. rw (get_or-drop 3 body j 0) (i y (3 + j)) in
       sending n (with_table s t) (λ y. with_table_lem (h y) t (defines s.table x rest (bytes y) (texts_of (h y)))) (verdict_bytes v x) (omega (arith, verdict_long v x))
-  macros body (MacroBody.Readable (Literal x)) i = data_step n s h x
+  macros body (Some (Literal x)) i = data_step n s h x
 
-  values : (d : Disposition) (b : ValueBody) → Step s.rcte s.reader 1 n H (value_read s d b)
-  values d ValueBody.Unreadable = noting n s h Unreadable
-  values d (ValueBody.Readable v) =
+  values : (d : Disposition) (b : Option ℕ) → Step s.rcte s.reader 1 n H (value_read s d b)
+  values d None = noting n s h Unreadable
+  values d (Some v) =
       let x = with_values_of s.values d (with_ds (values_of s.values d) v) in
       sending n (with_values s x) (λ y. with_values_lem (h y) x) [] (omega arith)
 
   handles : (body : List ℕ) (c : Checked) → (H → InBytes body) → Step s.rcte s.reader 1 n H (body_handled s body c)
-  handles body (Noted note) i = noting n s h note
-  handles body Checked.Rcte i = rctes (rcte_body body)
-  handles body (Checked.Disposes d) i = values d (value_body d DS body)
-  handles body Checked.Macro i = macros body (macro_body body) i
+  handles body (Err note) i = noting n s h note
+  handles body (Ok Subject.Rcte) i = rctes (rcte_body body)
+  handles body (Ok (Subject.Disposes d)) i = values d (value_body d DS body)
+  handles body (Ok Subject.Macro) i = macros body (macro_body body) i
 
 -- the bound of a body that is not empty is enough for its reply
 bodies : {H : Type 0} (s : PrinterState) → (H → Limited s) → (marred : Bool) (body : List ℕ) → (H → InBytes body)

@@ -1,6 +1,7 @@
 -- A byte that has a mark, tried in place before it is read with the whole state.
-use mathlib.Core.Path.{◌≡◌, refl, sym, ap, ◌∙◌}
+use mathlib.Core.Path.{◌≡◌, refl, ap, ◌∙◌}
 use mathlib.Core.Bool.{Bool, true, false}
+use Rattle.std.specs.Prelude.{Some, None}
 use mathlib.Core.List.{List, []}
 use Prim.Native.Nat.{ℕ}
 use native.Mathlib.Omega.{arith}
@@ -39,14 +40,14 @@ module _ (p : Printer) (b : ℕ) (e : Entry) (is : entry_of (view_printer p).tab
       go true h = rw (does h) at room
       go false h = rw (stays h) (omega arith)
 
-  module _ {paper : Lent} {r : InPlace} (m : RefinesInPlaceOnPaper effect paper r) where
-    -- it was handled
-    pub marked_met : (wire : List ℕ) → r.handled ≡ true
-        → RefinesStep whole p paper (untouched wire) (record { note = Clear; paper = r.paper; wire = r.wire; state = p })
-    marked_met wire h =
-        let kept = entry_kept s.sides s.reader.phase s.rcte.held e in
-        rw (does (sym (m.met wire).handled ∙ h)) (record { note = refl; wrote = (m.met wire).wrote; view = rw (kept.0, kept.1); clean = λ k. k })
+  -- it was handled
+  pub marked_met : {paper : Lent} {r : InPlace} → RefinesInPlaceOnPaper effect paper (Some r) → (wire : List ℕ)
+      → RefinesStep whole p paper (untouched wire) (record { note = Clear; paper = r.paper; wire = r.wire; state = p })
+  marked_met m wire =
+      let kept = entry_kept s.sides s.reader.phase s.rcte.held e in
+      let handled = m.met wire in
+      rw (does handled.handled) (record { note = refl; wrote = handled.wrote; view = rw (kept.0, kept.1); clean = λ k. k })
 
-    -- it was not, and nothing is written
-    pub marked_unwritten : r.handled ≡ false → paper.after ≡ paper.before
-    marked_unwritten h = rw (stays (sym (m.met []).handled ∙ h)) at (m.met []).wrote.paper.cells
+  -- it was not, and nothing is written
+  pub marked_unwritten : {paper : Lent} → RefinesInPlaceOnPaper effect paper None → paper.after ≡ paper.before
+  marked_unwritten m = rw (stays (m.met []).handled) at (m.met []).wrote.paper.cells

@@ -10,8 +10,7 @@ use Rattle.codes.specs.Telnet.{DS, DR, whose_of, enables}
 use Rattle.codes.specs.declared.Code.{Code}
 use Rattle.codes.specs.declared.Code.TheVariants.{Done, NoRoom, NotCarried}
 use Rattle.codes.specs.declared.Disposition.{Disposition}
-use Rattle.codes.specs.declared.MaybeDisposition.{MaybeDisposition}
-use Rattle.codes.specs.declared.MaybeDisposition.TheVariants.{Some, None}
+use Rattle.std.specs.Prelude.{Option, Some, None, Result}
 use Rattle.codes.specs.declared.Note.{Note}
 use Rattle.codes.specs.declared.Note.TheVariants.{Clear, Unreadable, Stray}
 use Rattle.codes.specs.declared.Verb.{Verb}
@@ -21,17 +20,16 @@ use Rattle.negotiation.specs.declared.OptionState.TheVariants.{No}
 use Rattle.negotiation.specs.declared.Side.{Side}
 use Rattle.negotiation.specs.declared.Side.TheVariants.{Echo, BulletinSga, Rcte, Macro, PrinterSga, Disposes, Uncarried}
 use Rattle.negotiation.specs.declared.Sides.{Sides}
-use Rattle.negotiation.specs.declared.Asking.{Asking}
+use Rattle.negotiation.specs.declared.Move.{Move}
 use Rattle.negotiation.specs.declared.Turn.{Turn}
 use Rattle.negotiation.specs.Table.{is_yes, is_yes_or_ending, heard}
 use Rattle.negotiation.specs.Carried.{moved, may_enable, state_of, declined, reply_bytes, disposition_in_force, asked_by, asked_whose, asked_side, asked_enable}
 use Rattle.reader.specs.declared.Item.{Item}
 use Rattle.reader.specs.declared.Item.TheVariants.{Nothing, Data, Negotiated, BodyEnd, StrayCommand}
 use Rattle.reader.specs.Reading.{ReaderState, idle, read, is_between}
-use Rattle.bodies.specs.declared.RcteBody.{RcteBody}
-use Rattle.bodies.specs.declared.MacroBody.{MacroBody}
+use Rattle.bodies.specs.declared.RcteCommand.{RcteCommand}
+use Rattle.bodies.specs.declared.MacroCommand.{MacroCommand}
 use Rattle.bodies.specs.declared.MacroCommand.TheVariants.{Define, Literal}
-use Rattle.bodies.specs.declared.ValueBody.{ValueBody}
 use Rattle.bodies.specs.RcteBodies.{rcte_body}
 use Rattle.bodies.specs.MacroBodies.{macro_body, define_rest}
 use Rattle.bodies.specs.ValueBodies.{value_body}
@@ -45,7 +43,7 @@ use Rattle.printer.specs.Calls.{network_call, ask_call, suggest_of, suggest_call
 use Rattle.printer.specs.Session.{called}
 use Rattle.printer.specs.Session.Call.{network, ask, suggest}
 use Rattle.negotiation.proofs.Outcomes.{heard_cases, asking_cases}
-use Rattle.subnegotiation.specs.declared.Checked.{Checked}
+use Rattle.subnegotiation.specs.Checks.{Checked}
 use Rattle.subnegotiation.proofs.Outcomes.{checked_cases}
 use Rattle.printer.proofs.Acts.{acted, effect_of, Planned}
 use Rattle.printer.proofs.Acts.Acts.{puts, holds, starts, ends, commands, both}
@@ -104,21 +102,21 @@ negotiation_read_lem s v option =
     side_moved_lem s side h.next (reply_bytes (whose_of v) h.reply option))
     (side_moved_lem s Uncarried No (reply_bytes (whose_of v) (declined (enables v)) option))
 
-rcte_read_lem : (s : PrinterState) (b : RcteBody) → rcte_in_force s ≡ true → Planned s.sides (λ e. rcte_read (with_rcte s e) b)
+rcte_read_lem : (s : PrinterState) (b : Option RcteCommand) → rcte_in_force s ≡ true → Planned s.sides (λ e. rcte_read (with_rcte s e) b)
 unfolding acted
-rcte_read_lem s RcteBody.Unreadable p = plain_step s s refl Unreadable [] []
-rcte_read_lem s (RcteBody.Readable c) p = record { note = Clear; others = s; acts = commands p p c; does = λ e. refl }
+rcte_read_lem s None p = plain_step s s refl Unreadable [] []
+rcte_read_lem s (Some c) p = record { note = Clear; others = s; acts = commands p p c; does = λ e. refl }
 
-macro_read_lem : (s : PrinterState) (body : List ℕ) (b : MacroBody) → Planned s.sides (λ e. macro_read (with_rcte s e) body b)
-macro_read_lem s body MacroBody.Unreadable = plain_step s s refl Unreadable [] []
-macro_read_lem s body (MacroBody.Readable (Define x)) =
+macro_read_lem : (s : PrinterState) (body : List ℕ) (b : Option MacroCommand) → Planned s.sides (λ e. macro_read (with_rcte s e) body b)
+macro_read_lem s body None = plain_step s s refl Unreadable [] []
+macro_read_lem s body (Some (Define x)) =
     let v = judged s.table x (define_rest body) in
     plain_step s (with_table s (after_define v s.table x (drop 1 (define_rest body)))) refl Clear [] (verdict_bytes v x)
-macro_read_lem s body (MacroBody.Readable (Literal x)) = data_read_lem s x
+macro_read_lem s body (Some (Literal x)) = data_read_lem s x
 
-value_read_lem : (s : PrinterState) (d : Disposition) (b : ValueBody) → Planned s.sides (λ e. value_read (with_rcte s e) d b)
-value_read_lem s d ValueBody.Unreadable = plain_step s s refl Unreadable [] []
-value_read_lem s d (ValueBody.Readable v) =
+value_read_lem : (s : PrinterState) (d : Disposition) (b : Option ℕ) → Planned s.sides (λ e. value_read (with_rcte s e) d b)
+value_read_lem s d None = plain_step s s refl Unreadable [] []
+value_read_lem s d (Some v) =
     plain_step s (with_values s (with_values_of s.values d (with_ds (values_of s.values d) v))) refl Clear [] []
 
 body_read_lem : (s : PrinterState) (marred : Bool) (body : List ℕ) → Planned s.sides (λ e. body_read (with_rcte s e) marred body)
@@ -206,12 +204,12 @@ ask_call_lem s option way paper wire =
     let enable = asked_enable way in
     guarded_step s (refused_if (no_room paper wire) NoRoom ∷ [])
     (asking_cases
-    (λ (a : Asking). Answered s.sides (λ e. asked_by (refused (with_rcte s e)) (λ q r. done (moved_with_reply (with_rcte s e) side q (reply_bytes whose r option))) a))
+    (λ (a : Result Move Code). Answered s.sides (λ e. asked_by (refused (with_rcte s e)) (λ q r. done (moved_with_reply (with_rcte s e) side q (reply_bytes whose r option))) a))
     s.sides side enable
     (refuses_step s)
     (λ q r c m. does_step (side_moved_lem s side q (reply_bytes whose r option))))
 
-suggest_found : (s : PrinterState) (v : ℕ) (found : MaybeDisposition)
+suggest_found : (s : PrinterState) (v : ℕ) (found : Option Disposition)
     → Answered s.sides (λ e. of_disposition (refused (with_rcte s e) NotCarried) (suggest_of (with_rcte s e) v) found)
 suggest_found s v None = refuses_step s NotCarried
 suggest_found s v (Some d) =

@@ -1,6 +1,6 @@
 -- A reply, and behind it what follows as a side moves.
 use mathlib.Core.List.{List}
-use Prim.Native.Nat.{ℕ, ◌+◌, ◌-◌, ◌≤◌}
+use Prim.Native.Nat.{ℕ, ◌+◌, ◌≤◌}
 use native.Mathlib.Omega.{arith}
 use lib.ListN.{length, length-append}
 use Rattle.lists.specs.Buffers.{Lent, lent_as, WroteAtStart, RoomFor}
@@ -18,15 +18,6 @@ module _ (s : PrinterState) (side : Side) (q : OptionState) (reply : List ℕ) w
     fits : RoomFor reply wire.before
     fits = room_reply wire.before room
 
-    pub reply_within : n ≤ length wire.after
-    reply_within = omega (arith, counted w fits, same_long w fits)
-
-    pub room_rest : RoomFor (side_moved s side q).wire (rest_of wire n)
-    room_rest = part_room w fits (side_moved s side q).wire (simp length-append (omega (arith, simp length-append at room)))
-
     module _ {last : List ℕ} {m : ℕ} (v : WroteAtStart (side_moved s side q).wire (lent_as (rest_of wire n) last) m) where
       pub both_wrote : WroteAtStart (moved_with_reply s side q reply).wire (with_rest wire n last) (n + m)
       both_wrote = wrote_then w fits (side_moved s side q).wire last m v
-
-      pub both_counted : n + m ≤ length wire.before
-      both_counted = counted both_wrote room

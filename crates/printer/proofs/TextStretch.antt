@@ -1,13 +1,11 @@
 -- A plain stretch of a macro's text is printed by one copy: it keeps the invariant of the loop that reads the text.
 use mathlib.Core.Path.{◌≡◌, sym, ap, subst, ◌∙◌}
 use mathlib.Core.List.{List, append-nil}
-use Prim.Native.Nat.{ℕ, ◌+◌, ◌-◌, ◌≤◌}
+use Prim.Native.Nat.{ℕ, ◌+◌, ◌≤◌}
 use native.Mathlib.Omega.{arith}
 use lib.ListN.{length, take, drop, length-append, length-drop}
-use lib.Seq.{take-take}
 use Rattle.lists.specs.Buffers.{Lent, lent_as, WroteAtStart, RoomFor}
 use Rattle.lists.proofs.Parts.{rest_of, with_rest, wrote_then, part_room, counted}
-use Rattle.lists.proofs.Copying.{cut_from}
 use Rattle.codes.specs.declared.Note.{Note}
 use Rattle.codes.proofs.Notes.{first_clear}
 use Rattle.printer.specs.declared.Printer.{Printer}
@@ -15,21 +13,9 @@ use Rattle.printer.specs.State.{PrinterState, Effect, printing, followed}
 use Rattle.printer.specs.Network.{bytes_read}
 use Rattle.printer.specs.Stretches.{text_stretch}
 use Rattle.printer.specs.Refinement.{view_printer}
-use Rattle.printer.proofs.Steps.{followed_assoc}
+use Rattle.printer.specs.NetworkEnd.{followed_assoc}
 use Rattle.printer.proofs.PlainBytes.{text_within, text_stretch_lem}
 use Rattle.printer.proofs.Texts.{TextLoop, paper_done}
-
--- k bytes from i on, cut out of an array of which the text is the first count bytes
-module _ (bytes : List ℕ) (count i : ℕ) (here : i ≤ count) (long : count ≤ length bytes) where
-  pub rest_cut : take (count - i) (drop i bytes) ≡ drop i (take count bytes)
-  rest_cut =
-      let all : i + (count - i) ≡ count = omega arith in
-      rw all at (cut_from bytes i (count - i) (omega arith))
-
-  pub part_cut : (k : ℕ) → k ≤ count - i → take (i + k - i) (drop i bytes) ≡ take k (drop i (take count bytes))
-  part_cut k h =
-      let same : i + k - i ≡ k = omega arith in
-      rw (same, ← rest_cut) (sym (take-take k (count - i) (drop i bytes) h))
 
 module _ {s t : Printer} {text : List ℕ} {paper wire : Lent} {n : Note} {i p w : ℕ}
     (g : TextLoop s text paper wire t n i p w)

@@ -1,7 +1,7 @@
 -- A macro's text read byte by byte: the loop's invariant, and that one more byte keeps it.
 use mathlib.Core.Path.{◌≡◌, refl, sym, ap₂, subst, ◌∙◌}
 use mathlib.Core.List.{List, []}
-use Prim.Native.Nat.{ℕ, ◌+◌, ◌-◌, ◌≤◌, ◌<◌}
+use Prim.Native.Nat.{ℕ, ◌+◌, ◌≤◌, ◌<◌}
 use native.Mathlib.Omega.{arith}
 use lib.ListN.{length, drop, get_or, length-append, drop_of_length-le}
 use Rattle.lists.specs.Buffers.{Lent, lent_as, untouched, WroteBothAtStart, RoomFor}

@@ -1,6 +1,6 @@
 -- A network byte read from the option states, the reader's phase, RCTE's hold and the macros alone, where it changes nothing but the
 -- first two.
-use Rattle.std.specs.Prelude.{◌≡◌, Bool, true, false, not, ◌&&◌, cond, List, [], ◌∷◌, ℕ, ◌≤◌, length, eqb}
+use Rattle.std.specs.Prelude.{◌≡◌, Option, Some, None, Bool, true, false, not, ◌&&◌, cond, List, [], ◌∷◌, ℕ, ◌≤◌, length, eqb}
 use Rattle.lists.specs.Buffers.{Lent, untouched, WroteBothAtStart}
 use Rattle.lists.specs.Fronts.{front}
 use Rattle.codes.specs.Answers.{paper_room, wire_room}
@@ -15,6 +15,7 @@ use Rattle.negotiation.specs.declared.Turn.{Turn}
 use Rattle.negotiation.specs.Carried.{moved, reply_bytes, heard_by, macros_in_force}
 use Rattle.reader.specs.declared.Item.{Item}
 use Rattle.reader.specs.declared.Phase.{Phase}
+use Rattle.reader.specs.declared.PhaseRead.{PhaseRead}
 use Rattle.reader.specs.Phases.{phase_read}
 use Rattle.reader.specs.Reading.{item_by, is_between}
 use Rattle.received_macros.specs.declared.Texts.{Texts}
@@ -82,11 +83,13 @@ unfoldable pub item_in_place : Sides → (phase next : Phase) → (held : Bool) 
 item_in_place sides phase next held i =
     item_by (prints_in_place [] sides next) (data_in_place sides phase next held) (negotiated_in_place sides phase next) (unhandled sides phase) (unhandled sides phase) i
 
--- a byte read as it stands
+-- a byte read as it stands, by what moves where the phase alone does
+abbrev pub moved_in_place : Sides → Phase → (held : Bool) → Option PhaseRead → InPlaceEffect
+moved_in_place sides phase held None = unhandled sides phase
+moved_in_place sides phase held (Some m) = item_in_place sides phase m.phase held m.item
+
 unfoldable pub byte_in_place : Sides → Phase → (held : Bool) → ℕ → InPlaceEffect
-byte_in_place sides phase held b =
-    let m = phase_read phase b in
-    cond m.alone (item_in_place sides phase m.phase held m.item) (unhandled sides phase)
+byte_in_place sides phase held b = moved_in_place sides phase held (phase_read phase b)
 
 -- a byte that the macros may replace; even IAC has a mark in a state that no session reaches
 abbrev pub may_replace : Sides → Phase → (marks : List ℕ) → ℕ → Bool
@@ -131,23 +134,28 @@ InPlaceFits =
     (p : Printer) (b : ℕ) → let e = in_place_read p.sides p.reader.phase p.rcte.held p.table b in
     (length e.paper ≤ paper_room) × (length e.wire ≤ wire_room)
 
--- what the code answers of a byte: whether it is handled, the parts after it, and every lent byte
-pub record RefinesInPlace (e : InPlaceEffect) (paper wire : Lent) (r : InPlace) : Type 0 where
-  pub handled : r.handled ≡ e.handled
-  pub sides : r.sides ≡ e.sides
-  pub phase : r.phase ≡ e.phase
+-- what the code answers of a byte that is handled: the parts after it, and every lent byte
+pub record HandledInPlace (e : InPlaceEffect) (paper wire : Lent) (r : InPlace) : Type 0 where
+  pub handled : e.handled ≡ true
+  pub sides : r.parts.sides ≡ e.sides
+  pub phase : r.parts.phase ≡ e.phase
   pub wrote : WroteBothAtStart e.paper e.wire paper wire r.paper r.wire
 
--- .. of one that writes only on the paper, or only on the wire
-pub record RefinesInPlaceOnPaper (e : InPlaceEffect) (paper : Lent) (r : InPlace) : Type 0 where
+-- .. and of one that is not
+pub record UnhandledInPlace (e : InPlaceEffect) (paper wire : Lent) : Type 0 where
+  pub handled : e.handled ≡ false
+  pub wrote : WroteBothAtStart e.paper e.wire paper wire 0 0
+
+abbrev pub RefinesInPlace : InPlaceEffect → Lent → Lent → Option InPlace → Type 0
+RefinesInPlace e paper wire None = UnhandledInPlace e paper wire
+RefinesInPlace e paper wire (Some r) = HandledInPlace e paper wire r
+
+-- the same of one that writes only on the paper, or only on the wire
+pub record RefinesInPlaceOnPaper (e : InPlaceEffect) (paper : Lent) (r : Option InPlace) : Type 0 where
   pub met : (wire : List ℕ) → RefinesInPlace e paper (untouched wire) r
 
-pub record RefinesInPlaceOnWire (e : InPlaceEffect) (wire : Lent) (r : InPlace) : Type 0 where
+pub record RefinesInPlaceOnWire (e : InPlaceEffect) (wire : Lent) (r : Option InPlace) : Type 0 where
   pub met : (paper : List ℕ) → RefinesInPlace e (untouched paper) wire r
-
--- the code's answer of a byte that is not handled
-abbrev pub unhandled_answer : Sides → Phase → InPlace
-unhandled_answer sides phase = record { handled = false; sides = sides; phase = phase; paper = 0; wire = 0 }
 
 -- the table in two lent arrays
 abbrev pub table_in : (marks cells : List ℕ) → Texts

@@ -1,5 +1,5 @@
 -- A network byte at the printer end.
-use Rattle.std.specs.Prelude.{Bool, true, false, ◌&&◌, cond, List, [], ◌∷◌, ℕ, drop}
+use Rattle.std.specs.Prelude.{Bool, true, false, ◌&&◌, cond, List, [], ◌∷◌, ℕ, drop, Option, Some, None, Ok, Err}
 use Rattle.codes.specs.Telnet.{DS}
 use Rattle.codes.specs.declared.Disposition.{Disposition}
 use Rattle.codes.specs.declared.Note.TheVariants.{Unreadable, Stray}
@@ -12,20 +12,17 @@ use Rattle.negotiation.specs.Table.{is_yes, is_yes_or_ending}
 use Rattle.negotiation.specs.Carried.{moved, reply_bytes, heard_by}
 use Rattle.reader.specs.declared.Item.{Item}
 use Rattle.reader.specs.Reading.{idle, read, item_by, byte_by, is_between}
-use Rattle.bodies.specs.declared.RcteBody.{RcteBody}
-use Rattle.bodies.specs.declared.MacroBody.{MacroBody}
+use Rattle.bodies.specs.declared.RcteCommand.{RcteCommand}
+use Rattle.bodies.specs.declared.MacroCommand.{MacroCommand}
 use Rattle.bodies.specs.declared.MacroCommand.TheVariants.{Define, Literal}
-use Rattle.bodies.specs.declared.ValueBody.{ValueBody}
 use Rattle.bodies.specs.RcteBodies.{rcte_body}
 use Rattle.bodies.specs.MacroBodies.{macro_body, define_rest}
 use Rattle.bodies.specs.ValueBodies.{value_body}
-use Rattle.received_macros.specs.declared.Verdict.{Verdict}
-use Rattle.received_macros.specs.Texts.{Entry, plain, text, no_macros, entry_of, judged, after_define, verdict_bytes}
+use Rattle.received_macros.specs.Texts.{Verdict, Entry, plain, text, no_macros, entry_of, judged, after_define, verdict_bytes}
 use Rattle.rcte.specs.Control.{started, holding, commanded, rcte_ended}
 use Rattle.disposition.specs.ByOption.{unspoken, with_ds, values_of, with_values_of}
-use Rattle.subnegotiation.specs.declared.Checked.{Checked}
-use Rattle.subnegotiation.specs.declared.Checked.TheVariants.{Noted}
-use Rattle.subnegotiation.specs.Checks.{checked}
+use Rattle.subnegotiation.specs.declared.Subject.{Subject}
+use Rattle.subnegotiation.specs.Checks.{Checked, checked}
 use Rattle.printer.specs.State.{PrinterState, with_sides, with_reader, with_table, with_rcte, with_values, rcte_in_force, echo_in_force, bm_in_force, Effect, sends, nothing, notes, printing, of_rcte, sending_first, followed}
 
 -- data is printed as it is; under RCTE it then holds
@@ -63,9 +60,9 @@ negotiation_read s v option =
     moved_with_reply s t.side t.next (reply_bytes t.whose t.reply option)
 
 -- the bodies; each of these is reached with the option in force
-abbrev pub rcte_read : PrinterState → RcteBody → Effect
-rcte_read s RcteBody.Unreadable = notes Unreadable s
-rcte_read s (RcteBody.Readable c) = of_rcte (commanded s.rcte c) s
+abbrev pub rcte_read : PrinterState → Option RcteCommand → Effect
+rcte_read s None = notes Unreadable s
+rcte_read s (Some c) = of_rcte (commanded s.rcte c) s
 
 abbrev pub define_read : PrinterState → ℕ → List ℕ → Verdict → Effect
 define_read s x rest v = sends (verdict_bytes v x) (with_table s (after_define v s.table x (drop 1 rest)))
@@ -73,21 +70,21 @@ define_read s x rest v = sends (verdict_bytes v x) (with_table s (after_define v
 abbrev pub define_judged : PrinterState → ℕ → List ℕ → Effect
 define_judged s x rest = define_read s x rest (judged s.table x rest)
 
-abbrev pub macro_read : PrinterState → List ℕ → MacroBody → Effect
-macro_read s body MacroBody.Unreadable = notes Unreadable s
-macro_read s body (MacroBody.Readable (Define x)) = define_judged s x (define_rest body)
-macro_read s body (MacroBody.Readable (Literal x)) = data_read s x
+abbrev pub macro_read : PrinterState → List ℕ → Option MacroCommand → Effect
+macro_read s body None = notes Unreadable s
+macro_read s body (Some (Define x)) = define_judged s x (define_rest body)
+macro_read s body (Some (Literal x)) = data_read s x
 
-abbrev pub value_read : PrinterState → Disposition → ValueBody → Effect
-value_read s d ValueBody.Unreadable = notes Unreadable s
-value_read s d (ValueBody.Readable v) = nothing (with_values s (with_values_of s.values d (with_ds (values_of s.values d) v)))
+abbrev pub value_read : PrinterState → Disposition → Option ℕ → Effect
+value_read s d None = notes Unreadable s
+value_read s d (Some v) = nothing (with_values s (with_values_of s.values d (with_ds (values_of s.values d) v)))
 
 -- a body by its option, or the note that ends its handling
 abbrev pub body_handled : PrinterState → List ℕ → Checked → Effect
-body_handled s body (Noted n) = notes n s
-body_handled s body Checked.Rcte = rcte_read s (rcte_body body)
-body_handled s body (Checked.Disposes d) = value_read s d (value_body d DS body)
-body_handled s body Checked.Macro = macro_read s body (macro_body body)
+body_handled s body (Err n) = notes n s
+body_handled s body (Ok Subject.Rcte) = rcte_read s (rcte_body body)
+body_handled s body (Ok (Subject.Disposes d)) = value_read s d (value_body d DS body)
+body_handled s body (Ok Subject.Macro) = macro_read s body (macro_body body)
 
 unfoldable pub body_read : PrinterState → Bool → List ℕ → Effect
 body_read s marred body = body_handled s body (checked End.Printer s.sides marred body)

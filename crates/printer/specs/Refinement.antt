@@ -1,5 +1,5 @@
 -- The printer end as the code keeps it: its view, its clean cells, and how a step and an answer of the code meet the rules.
-use Rattle.std.specs.Prelude.{◌≡◌, Bool, not, ◌&&◌, ◌||◌, List, ℕ, length, take}
+use Rattle.std.specs.Prelude.{◌≡◌, Bool, not, ◌&&◌, ◌||◌, List, ℕ, length}
 use Rattle.lists.specs.Buffers.{Lent, untouched, WroteBothAtStart}
 use Rattle.codes.specs.declared.Code.{Code}
 use Rattle.codes.specs.declared.Code.TheVariants.{Done}
@@ -15,16 +15,15 @@ use Rattle.received_macros.specs.Refinement.{view_texts, CleanTexts, empty_cells
 use Rattle.rcte.specs.Refinement.{view_rcte, CleanRcte, started_cells}
 use Rattle.disposition.specs.ByOption.{all_unspoken}
 use Rattle.printer.specs.declared.Printer.{Printer}
+use Rattle.printer.specs.declared.Parts.{Parts}
 use Rattle.printer.specs.declared.Step.{Step}
+use Rattle.rcte.specs.declared.RcteStep.{RcteStep}
 use Rattle.printer.specs.declared.Answer.{Answer}
-use Rattle.received_macros.specs.declared.Text.{Text}
 use Rattle.reader.specs.declared.Item.TheVariants.{BodyEnd}
 use Rattle.negotiation.specs.declared.End.{End}
-use Rattle.negotiation.specs.declared.Side.{Side}
-use Rattle.negotiation.specs.declared.OptionState.{OptionState}
 use Rattle.negotiation.specs.declared.Sides.{Sides}
 use Rattle.negotiation.specs.Table.{is_yes}
-use Rattle.negotiation.specs.Carried.{all_no, moved, macros_in_force}
+use Rattle.negotiation.specs.Carried.{all_no, macros_in_force}
 use Rattle.printer.specs.State.{PrinterState, Effect, CallEffect}
 use Rattle.printer.specs.Network.{item_read}
 
@@ -80,9 +79,9 @@ answered r = record { code = Done; note = r.note; paper = r.paper; wire = r.wire
 abbrev pub NoteAlone : Note → Printer → Step → Type 0
 NoteAlone n p r = r ≡ record { note = n; paper = 0; wire = 0; state = p }
 
--- the sides of the code's state after one of them moved
-abbrev pub sides_moved : Printer → Side → OptionState → Printer
-sides_moved p side q = record { sides = moved p.sides side q; reader = p.reader; table = p.table; rcte = p.rcte; values = p.values }
+-- what RCTE's control did, as a step of the code
+abbrev pub rcte_stepped : Printer → RcteStep → Step
+rcte_stepped p e = record { note = Clear; paper = e.paper; wire = e.wire; state = record p { rcte = e.rcte } }
 
 -- a step that only changes the state
 pub record RefinesState (d : Effect) (p r : Printer) : Type 0 where
@@ -103,10 +102,6 @@ pub record RefinesStepOnPaper (d : Effect) (p : Printer) (paper : Lent) (r : Ste
 abbrev pub is_ordinary : Sides → Phase → ℕ → Bool
 is_ordinary sides phase b = not (macros_in_force End.Printer sides || is_yes sides.rcte) && is_data phase b
 
--- the text that a copy has
-abbrev pub text_in : Text → List ℕ
-text_in t = take t.len t.bytes
-
 -- the end of a body: the reader's body is handled, and the reader is empty
 abbrev pub body_end_read : PrinterState → Effect
 body_end_read s = item_read s BodyEnd
@@ -114,3 +109,7 @@ body_end_read s = item_read s BodyEnd
 -- the printer end at first, as the code makes it
 abbrev pub fresh_cells : Printer
 fresh_cells = record { sides = all_no; reader = idle_cells; table = empty_cells; rcte = started_cells; values = all_unspoken }
+
+-- what says how a byte is read
+abbrev pub parts_of : Printer → Parts
+parts_of p = record { sides = p.sides; phase = p.reader.phase; held = p.rcte.held }

@@ -13,7 +13,7 @@ use Rattle.reader.specs.Reading.{ReaderState, idle}
 use Rattle.received_macros.specs.Texts.{Table, no_macros}
 use Rattle.rcte.specs.Taking.{TakeUp}
 use Rattle.rcte.specs.Control.{RcteState, RcteEffect, started}
-use Rattle.disposition.specs.declared.AllValues.{AllValues}
+use Rattle.disposition.specs.ByOption.{AllValues}
 use Rattle.disposition.specs.ByOption.{all_unspoken}
 
 pub record PrinterState : Type 0 where

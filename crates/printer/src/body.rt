@@ -9,10 +9,10 @@ ghost use Rattle.printer.specs.Network.{rcte_read, value_read, define_judged, ma
 ghost use Rattle.printer.specs.Refinement.{view_printer, body_end_read, RefinesStep, RefinesStepUnwritten, RefinesStepOnWire};
 
 use crate::{Printer, Step, moves, network};
-use bodies::{MacroBody, MacroCommand, RcteBody, ValueBody};
+use bodies::MacroCommand;
 use codes::{DS, Disposition, Note};
 use negotiation::End;
-use subnegotiation::Checked;
+use subnegotiation::Subject;
 
 // An RCTE command, with RCTE in force.
 fn rcte_read(s: Printer, body: &[u8], paper: &mut [u8], wire: &mut [u8]) -> Step
@@ -20,34 +20,24 @@ fn rcte_read(s: Printer, body: &[u8], paper: &mut [u8], wire: &mut [u8]) -> Step
     requires room_for_2 { RoomFor (rcte_read (view_printer s) (rcte_body body.now)).wire wire.old }
     ensures { RefinesStep (rcte_read (view_printer s) (rcte_body body.now)) s (lent paper) (lent wire) result }
 {
-    let RcteBody::Readable(command) = bodies::rcte_body(body) else {
+    let Some(command) = bodies::rcte_body(body) else {
         return moves::note_alone(s, Note::Unreadable);
     };
-    let control = s.rcte;
-    let e = rcte::commanded(control, command, paper, wire);
-    let after = e.rcte;
-    let mut t = s;
-    t.rcte = after;
-    Step {
-        note: Note::Clear,
-        paper: e.paper,
-        wire: e.wire,
-        state: t,
-    }
+    moves::after_rcte(s, rcte::commanded(s.rcte, command, paper, wire))
 }
 
 // The bulletin end's value about an option's character, with the option in force.
 fn value_read(s: Printer, d: Disposition, body: &[u8]) -> Step
     ensures { RefinesStepUnwritten (value_read (view_printer s) d (value_body d DS body.now)) s result }
 {
-    let ValueBody::Readable(value) = bodies::value_body(d, DS, body) else {
+    let Some(value) = bodies::value_body(d, DS, body) else {
         return moves::note_alone(s, Note::Unreadable);
     };
-    let old = s.values;
-    let spoken = disposition::with_ds(disposition::values_of(old, d), value);
-    let values = disposition::with_values_of(old, d, spoken);
-    let mut t = s;
-    t.values = values;
+    let spoken = disposition::with_ds(s.values.of(d), value);
+    let t = Printer {
+        values: s.values.with(d, spoken),
+        ..s
+    };
     moves::note_alone(t, Note::Clear)
 }
 
@@ -56,18 +46,15 @@ fn define_read(s: Printer, x: u8, rest: &[u8], wire: &mut [u8]) -> Step
     requires { RoomFor (verdict_bytes (judged (view_printer s).table x rest.now) x) wire.old }
     ensures { RefinesStepOnWire (define_judged (view_printer s) x rest.now) s (lent wire) result }
 {
-    let old = s.table;
-    let d = received_macros::define(old, x, rest);
-    let verdict = d.verdict;
-    let table = d.table;
-    let n = received_macros::put_verdict(verdict, x, wire);
-    let mut t = s;
-    t.table = table;
+    let defined = received_macros::define(s.table, x, rest);
     Step {
         note: Note::Clear,
         paper: 0,
-        wire: n,
-        state: t,
+        wire: received_macros::put_verdict(defined.map(|_| ()), x, wire),
+        state: Printer {
+            table: defined.unwrap_or(s.table),
+            ..s
+        },
     }
 }
 
@@ -77,7 +64,7 @@ fn macro_read(s: Printer, body: &[u8], paper: &mut [u8], wire: &mut [u8]) -> Ste
     requires room_for_2 { RoomFor (macro_read (view_printer s) body.now (macro_body body.now)).wire wire.old }
     ensures { RefinesStep (macro_read (view_printer s) body.now (macro_body body.now)) s (lent paper) (lent wire) result }
 {
-    let MacroBody::Readable(command) = bodies::macro_body(body) else {
+    let Some(command) = bodies::macro_body(body) else {
         return moves::note_alone(s, Note::Unreadable);
     };
     match command {
@@ -87,16 +74,22 @@ fn macro_read(s: Printer, body: &[u8], paper: &mut [u8], wire: &mut [u8]) -> Ste
 }
 
 // A body by its option, or the note that ends its handling.
-fn handled(s: Printer, body: &[u8], checked: Checked, paper: &mut [u8], wire: &mut [u8]) -> Step
-    requires room_for { RoomFor (body_handled (view_printer s) body.now checked).paper paper.old }
-    requires room_for_2 { RoomFor (body_handled (view_printer s) body.now checked).wire wire.old }
-    ensures { RefinesStep (body_handled (view_printer s) body.now checked) s (lent paper) (lent wire) result }
+fn handled(
+    s: Printer,
+    body: &[u8],
+    subject: Result<Subject, Note>,
+    paper: &mut [u8],
+    wire: &mut [u8],
+) -> Step
+    requires room_for { RoomFor (body_handled (view_printer s) body.now subject).paper paper.old }
+    requires room_for_2 { RoomFor (body_handled (view_printer s) body.now subject).wire wire.old }
+    ensures { RefinesStep (body_handled (view_printer s) body.now subject) s (lent paper) (lent wire) result }
 {
-    match checked {
-        Checked::Noted(note) => moves::note_alone(s, note),
-        Checked::Rcte => rcte_read(s, body, paper, wire),
-        Checked::Disposes(d) => value_read(s, d, body),
-        Checked::Macro => macro_read(s, body, paper, wire),
+    match subject {
+        Err(note) => moves::note_alone(s, note),
+        Ok(Subject::Rcte) => rcte_read(s, body, paper, wire),
+        Ok(Subject::Disposes(d)) => value_read(s, d, body),
+        Ok(Subject::Macro) => macro_read(s, body, paper, wire),
     }
 }
 
@@ -107,12 +100,16 @@ pub fn body_read(s: Printer, paper: &mut [u8], wire: &mut [u8]) -> Step
     ensures { RefinesStep (body_end_read (view_printer s)) s (lent paper) (lent wire) result }
 {
     let kept = s.reader;
-    let sides = s.sides;
-    let checked = subnegotiation::body_checked(End::Printer, sides, kept);
-    let empty = reader::idle();
-    let mut t = s;
-    t.reader = empty;
-    let body = kept.body;
-    let n = reader::body_len(kept.len);
-    handled(t, &body[..n], checked, paper, wire)
+    let subject = subnegotiation::body_checked(End::Printer, s.sides, kept);
+    let t = Printer {
+        reader: reader::idle(),
+        ..s
+    };
+    handled(
+        t,
+        &kept.body[..reader::body_len(kept.len)],
+        subject,
+        paper,
+        wire,
+    )
 }

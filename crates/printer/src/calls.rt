@@ -11,25 +11,20 @@ ghost use Rattle.printer.specs.RefinementOfRuns.{RefinesRun};
 ghost use Rattle.printer.specs.Refinement.{WholePrinter, view_printer, RefinesAnswer, RefinesOutcomeOnWire, RefinesStep, fresh_cells, refusal, answered};
 
 use crate::{Answer, Printer, RunAnswer, Step, moves, network, run};
-use codes::{Code, DR, Disposition, MaybeDisposition, Note};
+use codes::{Code, DR, Disposition, Each, Note};
 use disposition::Handlings;
 use keys::Key;
-use negotiation::{Asking, End};
+use negotiation::{End, Move, Turn};
 
 pub fn fresh() -> Printer
     ensures { result ≡ fresh_cells }
 {
-    let sides = negotiation::all_no();
-    let reader = reader::idle();
-    let table = received_macros::empty();
-    let rcte = rcte::started();
-    let values = disposition::all_unspoken();
     Printer {
-        sides,
-        reader,
-        table,
-        rcte,
-        values,
+        sides: negotiation::all_no(),
+        reader: reader::idle(),
+        table: received_macros::empty(),
+        rcte: rcte::started(),
+        values: Each::all(disposition::unspoken()),
     }
 }
 
@@ -49,14 +44,12 @@ fn refused(s: Printer, code: Code) -> Answer
 fn done(step: Step) -> Answer
     ensures { (result ≡ answered step) × WholePrinter step.state }
 {
-    let state = step.state;
-    let note = step.note;
     Answer {
         code: Code::Done,
-        note,
+        note: step.note,
         paper: step.paper,
         wire: step.wire,
-        state,
+        state: step.state,
     }
 }
 
@@ -66,10 +59,7 @@ pub fn network_byte(s: Printer, b: u8, paper: &mut [u8], wire: &mut [u8]) -> Ans
     if codes::no_room(paper.len(), wire.len()) {
         return refused(s, Code::NoRoom);
     }
-    let sides = s.sides;
-    let reading = s.reader;
-    let phase = reading.phase;
-    if network::is_ordinary(sides, phase, b) {
+    if network::is_ordinary(s.sides, s.reader.phase, b) {
         paper[0] = b;
         return Answer {
             code: Code::Done,
@@ -79,8 +69,7 @@ pub fn network_byte(s: Printer, b: u8, paper: &mut [u8], wire: &mut [u8]) -> Ans
             state: s,
         };
     }
-    let step = network::network_read(s, b, paper, wire);
-    done(step)
+    done(network::network_read(s, b, paper, wire))
 }
 
 // Network bytes one after the other, each in what the one before left unused of the two buffers. Stops before one that would be
@@ -98,12 +87,7 @@ pub fn network_bytes(s: Printer, bytes: &[u8], paper: &mut [u8], wire: &mut [u8]
 fn queue_full(s: Printer) -> bool
     ensures { result ≡ (rcte_in_force (view_printer s) && is_full (view_printer s).rcte) }
 {
-    let sides = s.sides;
-    if negotiation::rcte_in_force(sides) {
-        let control = s.rcte;
-        return rcte::is_full(control);
-    }
-    false
+    negotiation::rcte_in_force(s.sides) && rcte::is_full(s.rcte)
 }
 
 // A key that nothing refuses.
@@ -113,21 +97,10 @@ fn key_typed(s: Printer, k: Key, paper: &mut [u8], wire: &mut [u8]) -> Step
     requires room_for_2 { RoomFor (key_typed (view_printer s) k).wire wire.old }
     ensures { RefinesStep (key_typed (view_printer s) k) s (lent paper) (lent wire) result }
 {
-    let sides = s.sides;
-    let control = s.rcte;
-    if negotiation::rcte_in_force(sides) {
-        let e = rcte::pressed(control, k, paper, wire);
-        let after = e.rcte;
-        let mut t = s;
-        t.rcte = after;
-        return Step {
-            note: Note::Clear,
-            paper: e.paper,
-            wire: e.wire,
-            state: t,
-        };
+    if negotiation::rcte_in_force(s.sides) {
+        return moves::after_rcte(s, rcte::pressed(s.rcte, k, paper, wire));
     }
-    let echoed = negotiation::echo_in_force(sides);
+    let echoed = negotiation::echo_in_force(s.sides);
     let sent = rcte::send_key(k, echoed, paper, wire);
     Step {
         note: Note::Clear,
@@ -149,8 +122,7 @@ pub fn press(s: Printer, k: Key, paper: &mut [u8], wire: &mut [u8]) -> Answer
     if queue_full(s) {
         return refused(s, Code::QueueFull);
     }
-    let step = key_typed(s, k, paper, wire);
-    done(step)
+    done(key_typed(s, k, paper, wire))
 }
 
 // An option is asked for or given up: ways 0 and 1 disable and enable his side, 2 and 3 ours.
@@ -161,15 +133,16 @@ pub fn ask(s: Printer, option: u8, way: u8, paper: &mut [u8], wire: &mut [u8]) -
         return refused(s, Code::NoRoom);
     }
     let side = negotiation::asked_side(End::Printer, option, way);
-    let enable = negotiation::asked_enable(way);
-    let sides = s.sides;
-    let asking = negotiation::asking_of(sides, side, enable);
-    match asking {
-        Asking::Refused(code) => refused(s, code),
-        Asking::Moves(q, reply) => {
-            let whose = negotiation::asked_whose(way);
-            let step = moves::moved_with_reply(s, side, q, whose, reply, option, paper, wire);
-            done(step)
+    match negotiation::asking_of(s.sides, side, negotiation::asked_enable(way)) {
+        Err(code) => refused(s, code),
+        Ok(Move { next, reply }) => {
+            let turn = Turn {
+                side,
+                next,
+                whose: negotiation::asked_whose(way),
+                reply,
+            };
+            done(moves::moved_with_reply(s, turn, option, paper, wire))
         }
     }
 }
@@ -179,28 +152,20 @@ fn suggest_of(s: Printer, v: u8, d: Disposition, wire: &mut [u8]) -> Answer
     requires { RoomFor (suggestion d DR v) wire.old }
     ensures { RefinesOutcomeOnWire (suggest_of (view_printer s) v d) s (lent wire) result }
 {
-    let sides = s.sides;
-    let all = s.values;
-    let old = disposition::values_of(all, d);
-    let code = disposition::suggest_refusal(
-        d,
-        negotiation::disposition_in_force(sides, d),
-        old.dr,
-        v,
-    );
-    if !codes::is_done(code) {
-        return refused(s, code);
-    }
-    let n = disposition::put_suggestion(d, DR, v, wire);
-    let values = disposition::with_values_of(all, d, disposition::with_dr(old, v));
-    let mut t = s;
-    t.values = values;
-    Answer {
-        code: Code::Done,
-        note: Note::Clear,
-        paper: 0,
-        wire: n,
-        state: t,
+    let old = s.values.of(d);
+    let on = negotiation::disposition_in_force(s.sides, d);
+    match disposition::suggest_refusal(d, on, old.dr, v) {
+        Err(code) => refused(s, code),
+        Ok(()) => Answer {
+            code: Code::Done,
+            note: Note::Clear,
+            paper: 0,
+            wire: disposition::put_suggestion(d, DR, v, wire),
+            state: Printer {
+                values: s.values.with(d, disposition::with_dr(old, v)),
+                ..s
+            },
+        },
     }
 }
 
@@ -211,10 +176,9 @@ pub fn suggest(s: Printer, option: u8, v: u8, paper: &mut [u8], wire: &mut [u8])
     if codes::no_room(paper.len(), wire.len()) {
         return refused(s, Code::NoRoom);
     }
-    let found = codes::disposition_numbered(option);
-    match found {
-        MaybeDisposition::Some(d) => suggest_of(s, v, d, wire),
-        MaybeDisposition::None => refused(s, Code::NotCarried),
+    match codes::disposition_numbered(option) {
+        Some(d) => suggest_of(s, v, d, wire),
+        None => refused(s, Code::NotCarried),
     }
 }
 
@@ -222,7 +186,5 @@ pub fn suggest(s: Printer, option: u8, v: u8, paper: &mut [u8], wire: &mut [u8])
 pub fn report(s: Printer) -> Handlings
     ensures { reports_of result ≡ dispositions_report (view_printer s) }
 {
-    let sides = s.sides;
-    let values = s.values;
-    disposition::handlings_in(sides, values)
+    disposition::handlings_in(s.sides, s.values)
 }

@@ -1,10 +1,9 @@
 // A network byte that changes nothing but the option states and the reader's phase, read from the parts that it needs: the rest of the
 // state stays where it lies. A byte that is not handled has written nothing.
-ghost use Rattle.std.specs.Prelude.{◌≡◌, ◌≤◌};
+ghost use Rattle.std.specs.Prelude.{◌≡◌};
 ghost use Rattle.lists.specs.Buffers.{lent, RoomFor};
-ghost use Rattle.received_macros.specs.Refinement.{entry_in};
+ghost use Rattle.received_macros.specs.Texts.{text};
 ghost use Rattle.printer.specs.InPlace.{
-  text_in_place,
   entry_in_place,
   data_in_place,
   moves_alone,
@@ -16,250 +15,170 @@ ghost use Rattle.printer.specs.InPlace.{
   RefinesInPlace,
   RefinesInPlaceOnPaper,
   RefinesInPlaceOnWire,
-  unhandled_answer,
   table_in,
   entry_in_table,
 };
 
-use crate::stretches;
+use crate::Parts;
 use codes::Verb;
-use negotiation::{End, Side, Sides};
+use negotiation::{End, Side};
 use reader::{Item, Phase};
-use received_macros::{ROOM, Span};
+use received_macros::ROOM;
 
-// Whether the byte is handled, the two parts after it, and how many bytes went to the paper and to the wire.
+// The parts after a byte that is handled, and how many bytes went to the paper and to the wire.
 #[derive(Clone, Copy)]
 pub struct InPlace {
-    pub handled: bool,
-    pub sides: Sides,
-    pub phase: Phase,
+    pub parts: Parts,
     pub paper: usize,
     pub wire: usize,
 }
 
-fn unhandled(sides: Sides, phase: Phase) -> InPlace
-    ensures { result ≡ unhandled_answer sides phase }
+// A macro's text from where it lies in the cells, by one copy if it is plain throughout and has nothing to hold.
+#[tactic(auto, unfolding(crate::specs::InPlace::entry_in_place))]
+pub fn text_read(parts: Parts, bytes: &[u8], paper: &mut [u8]) -> Option<InPlace>
+    requires { RoomFor (entry_in_place parts.sides parts.phase parts.held (text bytes.now)).paper paper.old }
+    ensures { RefinesInPlaceOnPaper (entry_in_place parts.sides parts.phase parts.held (text bytes.now)) (lent paper) result }
 {
-    InPlace {
-        handled: false,
-        sides,
-        phase,
-        paper: 0,
+    if !parts.is_settled() || reader::text_front(bytes) != bytes.len() {
+        return None;
+    }
+    Some(InPlace {
+        parts,
+        paper: wire::put_bytes(bytes, paper),
         wire: 0,
-    }
-}
-
-// A macro's text, by one copy if it is plain throughout.
-fn text_read(sides: Sides, phase: Phase, text: &[u8], paper: &mut [u8]) -> InPlace
-    requires { RoomFor (text_in_place sides phase text.now).paper paper.old }
-    ensures { RefinesInPlaceOnPaper (text_in_place sides phase text.now) (lent paper) result }
-{
-    if reader::text_front(text) != text.len() {
-        return unhandled(sides, phase);
-    }
-    let n = wire::put_bytes(text, paper);
-    InPlace {
-        handled: true,
-        sides,
-        phase,
-        paper: n,
-        wire: 0,
-    }
-}
-
-// A byte's text from where it lies in the cells.
-pub fn span_read(
-    sides: Sides,
-    phase: Phase,
-    held: bool,
-    span: Span,
-    cells: &[u8; ROOM],
-    paper: &mut [u8],
-) -> InPlace
-    requires start_le_end { (span.start ≤ span.end) × (span.end ≤ 1024) }
-    requires room_for { RoomFor (entry_in_place sides phase held (entry_in span cells.now)).paper paper.old }
-    ensures { RefinesInPlaceOnPaper (entry_in_place sides phase held (entry_in span cells.now)) (lent paper) result }
-{
-    if !span.defined {
-        return unhandled(sides, phase);
-    }
-    if !stretches::is_settled(sides, phase, held) {
-        return unhandled(sides, phase);
-    }
-    let texts = &cells[..];
-    let start = span.start;
-    let end = span.end;
-    text_read(sides, phase, &texts[start..end], paper)
+    })
 }
 
 // A byte that has a mark; BM is in force and no command is being read.
 fn marked_read(
-    sides: Sides,
-    phase: Phase,
-    held: bool,
+    parts: Parts,
     marks: &[u16; 256],
     cells: &[u8; ROOM],
     b: u8,
     paper: &mut [u8],
-) -> InPlace
-    requires { RoomFor (entry_in_place sides phase held (entry_in_table marks.now cells.now b)).paper paper.old }
-    ensures { RefinesInPlaceOnPaper (entry_in_place sides phase held (entry_in_table marks.now cells.now b)) (lent paper) result }
+) -> Option<InPlace>
+    requires { RoomFor (entry_in_place parts.sides parts.phase parts.held (entry_in_table marks.now cells.now b)).paper paper.old }
+    ensures { RefinesInPlaceOnPaper (entry_in_place parts.sides parts.phase parts.held (entry_in_table marks.now cells.now b)) (lent paper) result }
 {
-    let span = received_macros::text_span(marks, b);
-    span_read(sides, phase, held, span, cells, paper)
+    let bytes = received_macros::text_in(marks, cells, b)?;
+    text_read(parts, bytes, paper)
 }
 
 // Data is printed where it has nothing to hold.
-fn data_read(
-    sides: Sides,
-    phase: Phase,
-    next: Phase,
-    held: bool,
-    b: u8,
-    paper: &mut [u8],
-) -> InPlace
-    requires { RoomFor (data_in_place sides phase next held b).paper paper.old }
-    ensures { RefinesInPlaceOnPaper (data_in_place sides phase next held b) (lent paper) result }
+fn data_read(parts: Parts, next: Phase, b: u8, paper: &mut [u8]) -> Option<InPlace>
+    requires { RoomFor (data_in_place parts.sides parts.phase next parts.held b).paper paper.old }
+    ensures { RefinesInPlaceOnPaper (data_in_place parts.sides parts.phase next parts.held b) (lent paper) result }
 {
-    if !stretches::is_settled(sides, next, held) {
-        return unhandled(sides, phase);
+    let after = Parts {
+        phase: next,
+        ..parts
+    };
+    if !after.is_settled() {
+        return None;
     }
     paper[0] = b;
-    InPlace {
-        handled: true,
-        sides,
-        phase: next,
+    Some(InPlace {
+        parts: after,
         paper: 1,
         wire: 0,
-    }
+    })
 }
 
 // Nothing but its state follows as the side moves.
 fn moves_alone(side: Side) -> bool
     ensures { result ≡ moves_alone side }
 {
-    match side {
-        Side::Echo => true,
-        Side::BulletinSga => true,
-        Side::Rcte => false,
-        Side::Macro => false,
-        Side::PrinterSga => true,
-        Side::Disposes(_) => false,
-        Side::Uncarried => true,
-    }
+    matches!(
+        side,
+        Side::Echo | Side::BulletinSga | Side::PrinterSga | Side::Uncarried
+    )
 }
 
 // WILL, WONT, DO or DONT of an option.
-fn negotiated(
-    sides: Sides,
-    phase: Phase,
-    next: Phase,
-    v: Verb,
-    option: u8,
-    wire: &mut [u8],
-) -> InPlace
-    requires { RoomFor (negotiated_in_place sides phase next v option).wire wire.old }
-    ensures { RefinesInPlaceOnWire (negotiated_in_place sides phase next v option) (lent wire) result }
+#[tactic(auto, unfolding(crate::specs::InPlace::turn_in_place))]
+fn negotiated(parts: Parts, next: Phase, v: Verb, option: u8, wire: &mut [u8]) -> Option<InPlace>
+    requires { RoomFor (negotiated_in_place parts.sides parts.phase next v option).wire wire.old }
+    ensures { RefinesInPlaceOnWire (negotiated_in_place parts.sides parts.phase next v option) (lent wire) result }
 {
-    let turn = negotiation::heard_by(End::Printer, sides, v, option);
-    let side = turn.side;
-    if !moves_alone(side) {
-        return unhandled(sides, phase);
+    let turn = negotiation::heard_by(End::Printer, parts.sides, v, option);
+    if !moves_alone(turn.side) {
+        return None;
     }
-    let whose = turn.whose;
-    let reply = turn.reply;
-    let n = negotiation::put_reply(whose, reply, option, wire);
-    let q = turn.next;
-    let moved = negotiation::moved(sides, side, q);
-    InPlace {
-        handled: true,
-        sides: moved,
-        phase: next,
+    Some(InPlace {
+        parts: Parts {
+            sides: negotiation::moved(parts.sides, turn.side, turn.next),
+            phase: next,
+            ..parts
+        },
         paper: 0,
-        wire: n,
-    }
+        wire: negotiation::put_reply(turn.whose, turn.reply, option, wire),
+    })
 }
 
 // What a byte completed, the phase after it being next.
+#[tactic(auto, unfolding(crate::specs::InPlace::item_in_place))]
 fn item_read(
-    sides: Sides,
-    phase: Phase,
+    parts: Parts,
     next: Phase,
-    held: bool,
     item: Item,
     paper: &mut [u8],
     wire: &mut [u8],
-) -> InPlace
-    requires room_for { RoomFor (item_in_place sides phase next held item).paper paper.old }
-    requires room_for_2 { RoomFor (item_in_place sides phase next held item).wire wire.old }
-    ensures { RefinesInPlace (item_in_place sides phase next held item) (lent paper) (lent wire) result }
+) -> Option<InPlace>
+    requires room_for { RoomFor (item_in_place parts.sides parts.phase next parts.held item).paper paper.old }
+    requires room_for_2 { RoomFor (item_in_place parts.sides parts.phase next parts.held item).wire wire.old }
+    ensures { RefinesInPlace (item_in_place parts.sides parts.phase next parts.held item) (lent paper) (lent wire) result }
 {
     match item {
-        Item::Nothing => InPlace {
-            handled: true,
-            sides,
-            phase: next,
+        Item::Nothing => Some(InPlace {
+            parts: Parts {
+                phase: next,
+                ..parts
+            },
             paper: 0,
             wire: 0,
-        },
-        Item::Data(b) => data_read(sides, phase, next, held, b, paper),
-        Item::Negotiated(v, option) => negotiated(sides, phase, next, v, option, wire),
-        Item::BodyEnd => unhandled(sides, phase),
-        Item::StrayCommand => unhandled(sides, phase),
+        }),
+        Item::Data(b) => data_read(parts, next, b, paper),
+        Item::Negotiated(v, option) => negotiated(parts, next, v, option, wire),
+        Item::BodyEnd | Item::StrayCommand => None,
     }
 }
 
 // A byte read as it stands.
-fn byte_read(
-    sides: Sides,
-    phase: Phase,
-    held: bool,
-    b: u8,
-    paper: &mut [u8],
-    wire: &mut [u8],
-) -> InPlace
-    requires room_for { RoomFor (byte_in_place sides phase held b).paper paper.old }
-    requires room_for_2 { RoomFor (byte_in_place sides phase held b).wire wire.old }
-    ensures { RefinesInPlace (byte_in_place sides phase held b) (lent paper) (lent wire) result }
+#[tactic(auto, unfolding(crate::specs::InPlace::byte_in_place))]
+fn byte_read(parts: Parts, b: u8, paper: &mut [u8], wire: &mut [u8]) -> Option<InPlace>
+    requires room_for { RoomFor (byte_in_place parts.sides parts.phase parts.held b).paper paper.old }
+    requires room_for_2 { RoomFor (byte_in_place parts.sides parts.phase parts.held b).wire wire.old }
+    ensures { RefinesInPlace (byte_in_place parts.sides parts.phase parts.held b) (lent paper) (lent wire) result }
 {
-    let read = reader::phase_read(phase, b);
-    if !read.alone {
-        return unhandled(sides, phase);
-    }
-    let next = read.phase;
-    let item = read.item;
-    item_read(sides, phase, next, held, item, paper, wire)
+    let read = reader::phase_read(parts.phase, b)?;
+    item_read(parts, read.phase, read.item, paper, wire)
 }
 
 // The macros may replace the byte. Its mark is looked at before anything else: a state that no session reaches may have one at IAC.
-fn may_replace(sides: Sides, phase: Phase, marks: &[u16; 256], b: u8) -> bool
-    ensures { result ≡ may_replace sides phase marks.now b }
+pub fn may_replace(parts: Parts, marks: &[u16; 256], b: u8) -> bool
+    ensures { result ≡ may_replace parts.sides parts.phase marks.now b }
 {
-    if !negotiation::macros_in_force(End::Printer, sides) {
-        return false;
-    }
-    if !reader::is_between(phase) {
-        return false;
-    }
-    !received_macros::is_unmarked(marks, b)
+    negotiation::macros_in_force(End::Printer, parts.sides)
+        && reader::is_between(parts.phase)
+        && !received_macros::is_unmarked(marks, b)
 }
 
+// None of a byte that asks for the whole state.
+#[tactic(auto, unfolding(crate::specs::InPlace::in_place_read))]
 pub fn read(
-    sides: Sides,
-    phase: Phase,
-    held: bool,
+    parts: Parts,
     marks: &[u16; 256],
     cells: &[u8; ROOM],
     b: u8,
     paper: &mut [u8],
     wire: &mut [u8],
-) -> InPlace
-    requires room_for { RoomFor (in_place_read sides phase held (table_in marks.now cells.now) b).paper paper.old }
-    requires room_for_2 { RoomFor (in_place_read sides phase held (table_in marks.now cells.now) b).wire wire.old }
-    ensures { RefinesInPlace (in_place_read sides phase held (table_in marks.now cells.now) b) (lent paper) (lent wire) result }
+) -> Option<InPlace>
+    requires room_for { RoomFor (in_place_read parts.sides parts.phase parts.held (table_in marks.now cells.now) b).paper paper.old }
+    requires room_for_2 { RoomFor (in_place_read parts.sides parts.phase parts.held (table_in marks.now cells.now) b).wire wire.old }
+    ensures { RefinesInPlace (in_place_read parts.sides parts.phase parts.held (table_in marks.now cells.now) b) (lent paper) (lent wire) result }
 {
-    if may_replace(sides, phase, marks, b) {
-        return marked_read(sides, phase, held, marks, cells, b, paper);
+    if may_replace(parts, marks, b) {
+        return marked_read(parts, marks, cells, b, paper);
     }
-    byte_read(sides, phase, held, b, paper, wire)
+    byte_read(parts, b, paper, wire)
 }

@@ -1,11 +1,14 @@
 // The printer end: keyboard and paper. One state by value, and its calls.
 #![tactic(auto)]
 
+ghost use Rattle.std.specs.Prelude.{◌≡◌};
+ghost use Rattle.printer.specs.Refinement.{parts_of};
+
 use codes::{Code, Note};
 use disposition::AllValues;
 use negotiation::Sides;
 use rcte::Rcte;
-use reader::Reader;
+use reader::{Phase, Reader};
 use received_macros::Texts;
 
 mod body;
@@ -24,6 +27,26 @@ pub struct Printer {
     pub table: Texts,
     pub rcte: Rcte,
     pub values: AllValues,
+}
+
+// What says how a byte is read: the option states, the reader's phase and RCTE's hold.
+#[derive(Clone, Copy)]
+pub struct Parts {
+    pub sides: Sides,
+    pub phase: Phase,
+    pub held: bool,
+}
+
+impl Printer {
+    pub fn parts(&self) -> Parts
+        ensures { result ≡ parts_of self.now }
+    {
+        Parts {
+            sides: self.sides,
+            phase: self.reader.phase,
+            held: self.rcte.held,
+        }
+    }
 }
 
 // A step: its note, how many bytes went to the paper and to the wire, and the state after it.

@@ -3,13 +3,13 @@ ghost use Rattle.lists.specs.Buffers.{lent, RoomFor};
 ghost use Rattle.negotiation.specs.Carried.{reply_bytes};
 ghost use Rattle.negotiation.specs.declared.Side.TheVariants.{Rcte, Macro, Disposes};
 ghost use Rattle.printer.specs.Network.{rcte_moved, side_moved, moved_with_reply, negotiation_read};
-ghost use Rattle.std.specs.Prelude.{true, false};
-ghost use Rattle.printer.specs.Refinement.{view_printer, sides_moved, RefinesStep, RefinesState, NoteAlone};
-ghost use Rattle.codes.specs.declared.Note.TheVariants.{Clear};
+ghost use Rattle.std.specs.Prelude.{◌≡◌, true, false};
+ghost use Rattle.printer.specs.Refinement.{view_printer, rcte_stepped, RefinesStep, RefinesState, NoteAlone};
 
 use crate::{Printer, Step};
-use codes::{Disposition, Note, Verb, Whose};
-use negotiation::{End, OptionState, Reply, Side};
+use codes::{Disposition, Note, Verb};
+use negotiation::{End, OptionState, Side, Turn};
+use rcte::RcteStep;
 
 // A step that writes nothing.
 pub fn note_alone(s: Printer, note: Note) -> Step
@@ -23,87 +23,91 @@ pub fn note_alone(s: Printer, note: Note) -> Step
     }
 }
 
+// What RCTE's control did.
+pub fn after_rcte(s: Printer, e: RcteStep) -> Step
+    ensures { result ≡ rcte_stepped s e }
+{
+    Step {
+        note: Note::Clear,
+        paper: e.paper,
+        wire: e.wire,
+        state: Printer { rcte: e.rcte, ..s },
+    }
+}
+
 // As RCTE ends: what was gathered goes out, then each waiting key, to paper as well.
 fn rcte_ended(s: Printer, paper: &mut [u8], wire: &mut [u8]) -> Step
     requires room_for { RoomFor (rcte_moved true false (view_printer s)).paper paper.old }
     requires room_for_2 { RoomFor (rcte_moved true false (view_printer s)).wire wire.old }
     ensures { RefinesStep (rcte_moved true false (view_printer s)) s (lent paper) (lent wire) result }
 {
-    let sides = s.sides;
-    let echoed = negotiation::echo_in_force(sides);
-    let control = s.rcte;
-    let e = rcte::rcte_ended(control, echoed, paper, wire);
-    let after = e.rcte;
-    let mut t = s;
-    t.rcte = after;
-    Step {
-        note: Note::Clear,
-        paper: e.paper,
-        wire: e.wire,
-        state: t,
-    }
+    let echoed = negotiation::echo_in_force(s.sides);
+    after_rcte(s, rcte::rcte_ended(s.rcte, echoed, paper, wire))
 }
 
 // RCTE ends as it leaves YES, and starts anew as it reaches YES.
+#[tactic(auto, unfolding(crate::specs::Network::side_moved))]
 fn rcte_moved(s: Printer, q: OptionState, paper: &mut [u8], wire: &mut [u8]) -> Step
     requires room_for { RoomFor (side_moved (view_printer s) Rcte q).paper paper.old }
     requires room_for_2 { RoomFor (side_moved (view_printer s) Rcte q).wire wire.old }
     ensures { RefinesStep (side_moved (view_printer s) Rcte q) s (lent paper) (lent wire) result }
 {
-    let old = s.sides;
-    let was = negotiation::rcte_in_force(old);
-    let on = negotiation::is_yes(q);
-    let sides = negotiation::moved(old, Side::Rcte, q);
-    let mut t = s;
-    t.sides = sides;
-    if on {
-        if was {
-            return note_alone(t, Note::Clear);
+    let was = negotiation::rcte_in_force(s.sides);
+    let t = Printer {
+        sides: negotiation::moved(s.sides, Side::Rcte, q),
+        ..s
+    };
+    match (was, negotiation::is_yes(q)) {
+        (true, false) => rcte_ended(t, paper, wire),
+        (false, true) => {
+            let anew = Printer {
+                rcte: rcte::started(),
+                ..t
+            };
+            note_alone(anew, Note::Clear)
         }
-        let control = rcte::started();
-        t.rcte = control;
-        return note_alone(t, Note::Clear);
+        (true, true) | (false, false) => note_alone(t, Note::Clear),
     }
-    if was {
-        return rcte_ended(t, paper, wire);
-    }
-    note_alone(t, Note::Clear)
 }
 
 // The macros are forgotten as BM is no longer in force.
+#[tactic(auto, unfolding(crate::specs::Network::side_moved))]
 fn macro_moved(s: Printer, q: OptionState) -> Printer
     ensures { RefinesState (side_moved (view_printer s) Macro q) s result }
 {
-    let old = s.sides;
-    let sides = negotiation::moved(old, Side::Macro, q);
-    let mut t = s;
-    t.sides = sides;
+    let t = Printer {
+        sides: negotiation::moved(s.sides, Side::Macro, q),
+        ..s
+    };
     if negotiation::is_yes_or_ending(q) {
         return t;
     }
-    let table = received_macros::empty();
-    t.table = table;
-    t
+    Printer {
+        table: received_macros::empty(),
+        ..t
+    }
 }
 
 // Both values of an option about output disposition are forgotten as it is no longer in force.
+#[tactic(auto, unfolding(crate::specs::Network::side_moved))]
 fn disposition_moved(s: Printer, d: Disposition, q: OptionState) -> Printer
     ensures { RefinesState (side_moved (view_printer s) (Disposes d) q) s result }
 {
-    let old = s.sides;
-    let sides = negotiation::moved(old, Side::Disposes(d), q);
-    let mut t = s;
-    t.sides = sides;
+    let t = Printer {
+        sides: negotiation::moved(s.sides, Side::Disposes(d), q),
+        ..s
+    };
     if negotiation::is_yes(q) {
         return t;
     }
-    let spoken = s.values;
-    let values = disposition::with_values_of(spoken, d, disposition::unspoken());
-    t.values = values;
-    t
+    Printer {
+        values: s.values.with(d, disposition::unspoken()),
+        ..t
+    }
 }
 
 // A side's state changes, with what follows from it; the reply is written before this.
+#[tactic(auto, unfolding(crate::specs::Network::side_moved))]
 fn side_moved(s: Printer, side: Side, q: OptionState, paper: &mut [u8], wire: &mut [u8]) -> Step
     requires room_for { RoomFor (side_moved (view_printer s) side q).paper paper.old }
     requires room_for_2 { RoomFor (side_moved (view_printer s) side q).wire wire.old }
@@ -111,71 +115,46 @@ fn side_moved(s: Printer, side: Side, q: OptionState, paper: &mut [u8], wire: &m
 {
     match side {
         Side::Rcte => rcte_moved(s, q, paper, wire),
-        Side::Macro => {
-            let t = macro_moved(s, q);
-            note_alone(t, Note::Clear)
-        }
-        Side::Disposes(d) => {
-            let t = disposition_moved(s, d, q);
-            note_alone(t, Note::Clear)
-        }
+        Side::Macro => note_alone(macro_moved(s, q), Note::Clear),
+        Side::Disposes(d) => note_alone(disposition_moved(s, d, q), Note::Clear),
         Side::Uncarried => note_alone(s, Note::Clear),
-        Side::Echo => plainly_moved(s, Side::Echo, q),
-        Side::BulletinSga => plainly_moved(s, Side::BulletinSga, q),
-        Side::PrinterSga => plainly_moved(s, Side::PrinterSga, q),
+        Side::Echo | Side::BulletinSga | Side::PrinterSga => {
+            let t = Printer {
+                sides: negotiation::moved(s.sides, side, q),
+                ..s
+            };
+            note_alone(t, Note::Clear)
+        }
     }
-}
-
-// Nothing but the side's state changes.
-fn plainly_moved(s: Printer, side: Side, q: OptionState) -> Step
-    ensures { NoteAlone Clear (sides_moved s side q) result }
-{
-    let old = s.sides;
-    let sides = negotiation::moved(old, side, q);
-    let mut t = s;
-    t.sides = sides;
-    note_alone(t, Note::Clear)
 }
 
 // The reply or the request goes first, then what follows from the change.
 pub fn moved_with_reply(
     s: Printer,
-    side: Side,
-    q: OptionState,
-    whose: Whose,
-    reply: Reply,
+    turn: Turn,
     option: u8,
     paper: &mut [u8],
     wire: &mut [u8],
 ) -> Step
-    requires room_for { RoomFor (moved_with_reply (view_printer s) side q (reply_bytes whose reply option)).paper paper.old }
-    requires room_for_2 { RoomFor (moved_with_reply (view_printer s) side q (reply_bytes whose reply option)).wire wire.old }
-    ensures { RefinesStep (moved_with_reply (view_printer s) side q (reply_bytes whose reply option)) s (lent paper) (lent wire) result }
+    requires room_for { RoomFor (moved_with_reply (view_printer s) turn.side turn.next (reply_bytes turn.whose turn.reply option)).paper paper.old }
+    requires room_for_2 { RoomFor (moved_with_reply (view_printer s) turn.side turn.next (reply_bytes turn.whose turn.reply option)).wire wire.old }
+    ensures { RefinesStep (moved_with_reply (view_printer s) turn.side turn.next (reply_bytes turn.whose turn.reply option)) s (lent paper) (lent wire) result }
 {
-    let n = negotiation::put_reply(whose, reply, option, wire);
-    let step = side_moved(s, side, q, paper, &mut wire[n..]);
-    let m = step.wire;
-    let state = step.state;
-    let note = step.note;
+    let n = negotiation::put_reply(turn.whose, turn.reply, option, wire);
+    let step = side_moved(s, turn.side, turn.next, paper, &mut wire[n..]);
     Step {
-        note,
-        paper: step.paper,
-        wire: n + m,
-        state,
+        wire: n + step.wire,
+        ..step
     }
 }
 
 // WILL, WONT, DO or DONT of an option.
+#[tactic(auto, unfolding(crate::specs::Network::negotiation_read))]
 pub fn negotiated(s: Printer, v: Verb, option: u8, paper: &mut [u8], wire: &mut [u8]) -> Step
     requires room_for { RoomFor (negotiation_read (view_printer s) v option).paper paper.old }
     requires room_for_2 { RoomFor (negotiation_read (view_printer s) v option).wire wire.old }
     ensures { RefinesStep (negotiation_read (view_printer s) v option) s (lent paper) (lent wire) result }
 {
-    let sides = s.sides;
-    let turn = negotiation::heard_by(End::Printer, sides, v, option);
-    let side = turn.side;
-    let q = turn.next;
-    let whose = turn.whose;
-    let reply = turn.reply;
-    moved_with_reply(s, side, q, whose, reply, option, paper, wire)
+    let turn = negotiation::heard_by(End::Printer, s.sides, v, option);
+    moved_with_reply(s, turn, option, paper, wire)
 }

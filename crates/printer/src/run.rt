@@ -1,11 +1,49 @@
-// Reads network bytes one after the other; those of a plain stretch are taken together.
+// The printer end reads runs of network bytes.
 ghost use Rattle.std.specs.Prelude.{◌≡◌};
 ghost use Rattle.lists.specs.Buffers.{lent};
-ghost use Rattle.printer.specs.Refinement.{view_printer, WholePrinter};
-ghost use Rattle.printer.specs.RefinementOfRuns.{RefinesRun, begun_run, refused_run, ran_answer};
+ghost use Rattle.printer.specs.State.{PrinterState, Effect, CallEffect};
+ghost use Rattle.printer.specs.NetworkRun.{printer_byte};
+ghost use Rattle.printer.specs.NetworkEnd.{lawful, Keeps};
+ghost use Rattle.printer.specs.Refinement.{view_printer};
+ghost use Rattle.printer.specs.RefinementOfRuns.{RefinesRun, begun_run, refused_run};
 
-use crate::{Printer, RunAnswer, network, stretches};
+use crate::{Printer, RunAnswer, network};
 use codes::{Code, Note};
+use reader::{ByteOutcome, ReadsNetwork};
+
+impl ReadsNetwork for Printer {
+    ghost State = { PrinterState };
+
+    ghost Effect = { Effect };
+
+    ghost Answer = { CallEffect };
+
+    ghost rule = { printer_byte };
+
+    ghost laws = { lawful };
+
+    ghost view = { view_printer };
+
+    ghost Kept = { Keeps };
+
+    ghost still = { λ s. record { clean = λ k. k; whole = λ k. k } };
+
+    ghost onward = { λ r s t f g. record { clean = λ k. g.clean (f.clean k); whole = λ k. g.whole (f.whole k) } };
+
+    fn plain_front(&self, bytes: &[u8]) -> usize {
+        self.parts().data_stretch(&self.table.marks, bytes)
+    }
+
+    fn read(&mut self, b: u8, paper: &mut [u8], wire: &mut [u8]) -> ByteOutcome {
+        let step = network::network_read(*self, b, paper, wire);
+        *self = step.state;
+        ByteOutcome {
+            note: step.note,
+            first: step.paper,
+            wire: step.wire,
+        }
+    }
+}
 
 // A refusal: the state that was given, and nothing written.
 pub fn refused(s: Printer, code: Code) -> RunAnswer
@@ -21,54 +59,18 @@ pub fn refused(s: Printer, code: Code) -> RunAnswer
     }
 }
 
-fn stopped(s: Printer, note: Note, taken: usize, paper: usize, wire: usize) -> RunAnswer
-    ensures { (result ≡ ran_answer s note taken paper wire) × WholePrinter s }
-{
-    RunAnswer {
-        code: Code::Done,
-        note,
-        taken,
-        paper,
-        wire,
-        state: s,
-    }
-}
-
 // A run whose first byte has room.
 pub fn read_bytes(s: Printer, bytes: &[u8], paper: &mut [u8], wire: &mut [u8]) -> RunAnswer
     ensures { RefinesRun (begun_run (view_printer s) bytes.now) s (lent paper) (lent wire) result }
 {
     let mut state = s;
-    let mut i: usize = 0;
-    let mut p: usize = 0;
-    let mut w: usize = 0;
-    while i < bytes.len() {
-        let left = paper.len() - p;
-        if codes::no_room(left, wire.len() - w) {
-            return stopped(state, Note::Clear, i, p, w);
-        }
-        let sides = state.sides;
-        let reading = state.reader;
-        let phase = reading.phase;
-        let end = reader::reach(i, bytes.len(), left);
-        let held = state.rcte.held;
-        let n = stretches::data_stretch(sides, phase, held, &state.table.marks, &bytes[i..end]);
-        if n > 0 {
-            let next = i + n;
-            let copied = wire::put_bytes(&bytes[i..next], &mut paper[p..]);
-            p += copied;
-            i = next;
-            continue;
-        }
-        let step = network::network_read(state, bytes[i], &mut paper[p..], &mut wire[w..]);
-        p += step.paper;
-        w += step.wire;
-        i += 1;
-        state = step.state;
-        let note = step.note;
-        if !codes::is_clear(note) {
-            return stopped(state, note, i, p, w);
-        }
+    let ran = reader::read_bytes(&mut state, bytes, paper, wire);
+    RunAnswer {
+        code: Code::Done,
+        note: ran.note,
+        taken: ran.taken,
+        paper: ran.first,
+        wire: ran.wire,
+        state,
     }
-    stopped(state, Note::Clear, i, p, w)
 }

@@ -1,8 +1,8 @@
 pub mod Cells
-pub mod Widths
 pub mod Gathering
 pub mod Pressing
 pub mod PlainKeys
 pub mod Releasing
+pub mod Sending
 pub mod Bounds
 pub mod StartedEcho

@@ -6,16 +6,15 @@ use Prim.Native.Nat.{ℕ, ◌+◌, ◌<◌}
 use native.Mathlib.Omega.{arith}
 use lib.ListN.{length}
 use lib.Dec.{eqb, ltb}
-use borrow.Author.Tests.{not-true, ne_eqb, le-ltb, ltb-true}
+use borrow.Author.Tests.{not-true, ne_eqb, le-ltb}
 use Rattle.lists.specs.Choice.{one_of}
 use Rattle.lists.proofs.Tables.{both_left, both_right}
 use Rattle.lists.proofs.Fronts.{neither_left}
 use Rattle.codes.specs.Telnet.{CR, IAC}
 use Rattle.keys.specs.declared.Key.TheVariants.{Char}
 use Rattle.keys.specs.Keys.{class_of, prints, key_paper, key_wire}
-use Rattle.keys.specs.Refinement.{key_of_number}
 use Rattle.rcte.specs.Taking.{OrdersState, is_break, is_send, flushes, taken_up}
-use Rattle.rcte.specs.Refinement.{is_plain_key, plain_paper, only_gathered}
+use Rattle.rcte.specs.Refinement.{is_plain_key, plain_paper}
 
 module _ (o : OrdersState) (b : ℕ) (plain : is_plain_key o b ≡ true) where
   stays : flushes o (Char b) ≡ false
@@ -47,25 +46,3 @@ module _ (o : OrdersState) (b : ℕ) (plain : is_plain_key o b ≡ true) where
   plain_taken g room =
       let fits : ltb 512 (length g + 1) ≡ false = le-ltb 512 (length g + 1) (omega arith) in
       rw (one_byte, fits, stays, unbroken, printed)
-
--- what the code's test says of a number in the queue
-module _ (o : OrdersState) (number filled : ℕ) (only : only_gathered o number filled ≡ true) where
-  bounds : (ltb number 256 ≡ true) × (ltb filled 512 ≡ true)
-  unfolding only_gathered
-  bounds =
-      let both = both_left (ltb number 256 && ltb filled 512) (is_plain_key o number) only in
-      (both_left (ltb number 256) (ltb filled 512) both, both_right (ltb number 256) (ltb filled 512) both)
-
-  pub is_byte : number < 256
-  is_byte = ltb-true number 256 bounds.0
-
-  pub has_room : filled < 512
-  has_room = ltb-true filled 512 bounds.1
-
-  pub plain_key : key_of_number number ≡ Char number
-  unfolding key_of_number
-  plain_key = rw bounds.0
-
-  pub is_plain : is_plain_key o number ≡ true
-  unfolding only_gathered
-  is_plain = both_right (ltb number 256 && ltb filled 512) (is_plain_key o number) only

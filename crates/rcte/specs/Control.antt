@@ -1,10 +1,8 @@
 -- The state of RCTE, and what a key, a command, a data byte and its end do to it.
-use Rattle.std.specs.Prelude.{Bool, true, false, ◌&&◌, cond, ℕ, length, leb}
+use Rattle.std.specs.Prelude.{Bool, true, false, ◌&&◌, cond, Option, Some, None, ℕ, length, leb}
 use mathlib.Core.List.{List, [], ◌∷◌, ◌++◌, map, flat_map}
 use Rattle.keys.specs.declared.Key.{Key}
 use Rattle.keys.specs.Keys.{key_wire}
-use Rattle.bodies.specs.declared.Classes.{Classes}
-use Rattle.bodies.specs.declared.Classes.TheVariants.{Same, New}
 use Rattle.bodies.specs.declared.RcteCommand.{RcteCommand}
 use Rattle.bodies.specs.declared.RcteCommand.TheVariants.{Repeat, Perform}
 use Rattle.rcte.specs.Taking.{OrdersState, no_orders, TakeUp, KeyEffect, taken_up, under_rcte, sent_paper, sent_at_once}
@@ -80,9 +78,9 @@ released o gathered (k ∷ ks) =
     cond t.broke (stopped_at o k ks t) (taken_first o k t (released o t.gathered ks))
 
 -- a command sets actions and classes
-abbrev pub classes_now : Classes → ℕ → ℕ
-classes_now Same n = n
-classes_now (New m) n = m
+abbrev pub classes_now : Option ℕ → ℕ → ℕ
+classes_now None n = n
+classes_now (Some m) n = m
 
 abbrev pub orders_now : RcteCommand → OrdersState → OrdersState
 orders_now Repeat o = o

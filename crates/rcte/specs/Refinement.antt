@@ -1,5 +1,5 @@
 -- The code's state seen as the rules' state, and what a call of the code owes to a rule.
-use Rattle.std.specs.Prelude.{◌≡◌, true, false, Bool, ◌&&◌, not, cond, List, [], ◌∷◌, map, ℕ, min, length, take, get_or, replicate, drop, leb, ltb, eqb}
+use Rattle.std.specs.Prelude.{◌≡◌, true, false, Bool, ◌&&◌, not, cond, List, [], ◌∷◌, map, ℕ, min, length, take, get_or, replicate, drop, leb, eqb}
 use Rattle.lists.specs.Buffers.{Lent, WroteBothAtStart, Clean, WroteAtStart}
 use Rattle.codes.specs.Telnet.{CR}
 use Rattle.keys.specs.declared.Key.{Key}
@@ -13,14 +13,15 @@ use Rattle.keys.specs.Keys.{key_paper, prints}
 use Rattle.bodies.specs.declared.RcteCommand.{RcteCommand}
 use Rattle.rcte.specs.declared.Orders.{Orders}
 use Rattle.rcte.specs.declared.Gathered.{Gathered}
-use Rattle.rcte.specs.declared.Sent.{Sent}
 use Rattle.rcte.specs.declared.Taken.{Taken}
-use Rattle.rcte.specs.declared.Stop.{Stop}
-use Rattle.rcte.specs.declared.Stop.TheVariants.{All, At}
 
 -- an array's cells in use: a count past the array counts as its length
 abbrev pub keys_in : List ℕ → ℕ → List Key
 keys_in cells count = map key_of_number (take (min count wait_room) cells)
+
+-- .. and their numbers
+abbrev pub numbers_in : Rcte → List ℕ
+numbers_in e = take (min e.count wait_room) e.waiting
 
 abbrev pub orders_in : Rcte → OrdersState
 orders_in e = record { action = e.action; breaks = e.breaks; sends = e.sends }
@@ -106,23 +107,20 @@ is_plain_key o b = not (flushes o (Char b)) && (prints b && not (eqb b CR))
 abbrev pub plain_paper : OrdersState → ℕ → List ℕ
 plain_paper o b = cond o.action.skiptext [] (b ∷ [])
 
--- a waiting key that only adds its byte to those gathered
-unfoldable pub only_gathered : OrdersState → ℕ → ℕ → Bool
-only_gathered o number filled = (ltb number 256 && ltb filled gather_room) && is_plain_key o number
-
 -- those bytes are gathered after it
 pub record Gathers (those : List ℕ) (before after : Gathered) : Type 0 where
   pub bytes : bytes_in after ≡ those
   pub clean : CleanGathered before → CleanGathered after
+  pub long : length after.cells ≡ length before.cells
 
-pub record RefinesSent (sent kept : List ℕ) (g : Gathered) (out : Lent) (r : Sent) : Type 0 where
-  pub wire : WroteAtStart sent out r.count
-  pub gathered : Gathers kept g r.gathered
+pub record RefinesSent (sent kept : List ℕ) (before after : Gathered) (out : Lent) (count : ℕ) : Type 0 where
+  pub wire : WroteAtStart sent out count
+  pub gathered : Gathers kept before after
 
-pub record RefinesTaken (t : KeyEffect) (g : Gathered) (paper wire : Lent) (r : Taken) : Type 0 where
+pub record RefinesTaken (t : KeyEffect) (before after : Gathered) (paper wire : Lent) (r : Taken) : Type 0 where
   pub wrote : WroteBothAtStart t.paper t.wire paper wire r.paper r.wire
   pub broke : r.broke ≡ t.broke
-  pub gathered : Gathers t.gathered g r.gathered
+  pub gathered : Gathers t.gathered before after
 
 -- a command has set its orders
 abbrev pub ordering : RcteCommand → RcteState → RcteState
@@ -139,18 +137,3 @@ left_at e gathered at held = record { held = held; orders = e.orders; waiting = 
 pub record Left (to : RcteState) (g : Gathered) (before after : Rcte) : Type 0 where
   pub rcte : view_rcte after ≡ to
   pub clean : CleanGathered g → Numbered before.waiting → CleanRcte after
-
--- how many keys were taken up as that stopped, and whether the last of them broke
-abbrev pub taken_before : Stop → List Key → ℕ
-taken_before All ks = length ks
-taken_before (At i) ks = i
-
-abbrev pub holds_after : Stop → Bool
-holds_after All = false
-holds_after (At i) = true
-
--- a step that left that state, and wrote so many bytes
-pub record Stopped (to : RcteState) (g : Gathered) (before : Rcte) (paper wire : ℕ) (r : RcteStep) : Type 0 where
-  pub rcte : Left to g before r.rcte
-  pub on_paper : r.paper ≡ paper
-  pub on_wire : r.wire ≡ wire

@@ -4,13 +4,12 @@
 ghost use Rattle.std.specs.Prelude.{◌≡◌};
 ghost use Rattle.lists.specs.Buffers.{lent, RoomFor};
 ghost use Rattle.rcte.specs.Control as control;
-ghost use Rattle.rcte.specs.Refinement.{view_rcte, started_cells, RefinesState, RefinesStep, pressed_if_room};
+ghost use Rattle.rcte.specs.Refinement.{view_rcte, started_cells, order_cells, gathered_cells, numbers_in, RefinesState, RefinesStep, pressed_if_room};
 
 use bodies::{Action, RcteCommand};
 use keys::Key;
 
 mod commands;
-mod parts;
 mod taking;
 mod waiting;
 
@@ -65,35 +64,46 @@ struct Gathered {
     filled: usize,
 }
 
-// Bytes that were sent, and those gathered after that.
-#[derive(Clone, Copy)]
-struct Sent {
-    count: usize,
-    gathered: Gathered,
-}
-
-// A key taken up: its bytes on the paper, those sent, whether it broke, and what stays gathered.
+// A key taken up: how many bytes went to the paper and to the wire, and whether it broke.
 #[derive(Clone, Copy)]
 struct Taken {
     paper: usize,
     wire: usize,
     broke: bool,
-    gathered: Gathered,
 }
 
-// Whether a break stopped the taking up of waiting keys, and how many were taken up then.
-#[derive(Clone, Copy)]
-enum Stop {
-    All,
-    At(usize),
+impl Rcte {
+    fn orders(&self) -> Orders
+        ensures { result ≡ order_cells self.now }
+    {
+        Orders {
+            action: self.action,
+            breaks: self.breaks,
+            sends: self.sends,
+        }
+    }
+
+    fn gathered_bytes(&self) -> Gathered
+        ensures { result ≡ gathered_cells self.now }
+    {
+        Gathered {
+            cells: self.gathered,
+            filled: self.filled,
+        }
+    }
+
+    // The numbers of the keys that wait.
+    fn waiting_numbers(&self) -> &[u16]
+        ensures { result.now ≡ numbers_in self.now }
+    {
+        &self.waiting[..self.count.min(WAIT_ROOM)]
+    }
 }
 
 // As RCTE comes in force.
 pub fn started() -> Rcte
     ensures { result ≡ started_cells }
 {
-    let waiting = parts::no_keys();
-    let gathered = parts::no_bytes();
     Rcte {
         held: true,
         action: Action {
@@ -102,9 +112,9 @@ pub fn started() -> Rcte
         },
         breaks: 0,
         sends: 0,
-        waiting,
+        waiting: [0; WAIT_ROOM],
         count: 0,
-        gathered,
+        gathered: [0; GATHER_ROOM],
         filled: 0,
     }
 }
@@ -113,9 +123,7 @@ pub fn started() -> Rcte
 pub fn holding(e: Rcte) -> Rcte
     ensures { RefinesState (control.holding (view_rcte e)) e result }
 {
-    let mut held = e;
-    held.held = true;
-    held
+    Rcte { held: true, ..e }
 }
 
 // A key under RCTE waits where keys are held, and else is taken up at once. One that finds the queue full changes
@@ -126,22 +134,18 @@ pub fn pressed(e: Rcte, k: Key, paper: &mut [u8], wire: &mut [u8]) -> RcteStep
     ensures { RefinesStep (pressed_if_room (view_rcte e) k) e (lent paper) (lent wire) result }
 {
     if e.held {
-        let more = waiting::queued(e, k);
         return RcteStep {
             paper: 0,
             wire: 0,
-            rcte: more,
+            rcte: waiting::queued(e, k),
         };
     }
-    let o = parts::orders_of(e);
-    let g = parts::gathered_of(e);
-    let t = taking::take_up(o, g, k, paper, wire);
-    let kept = t.gathered;
-    let rcte = waiting::left(e, kept, 0, t.broke);
+    let mut g = e.gathered_bytes();
+    let t = taking::take_up(e.orders(), &mut g, k, paper, wire);
     RcteStep {
         paper: t.paper,
         wire: t.wire,
-        rcte,
+        rcte: waiting::left(e, g, 0, t.broke),
     }
 }
 
@@ -151,8 +155,7 @@ pub fn commanded(e: Rcte, c: RcteCommand, paper: &mut [u8], wire: &mut [u8]) -> 
     requires room_for_2 { RoomFor (control.commanded (view_rcte e) c).wire wire.old }
     ensures { RefinesStep (control.commanded (view_rcte e) c) e (lent paper) (lent wire) result }
 {
-    let set = commands::ordered(e, c);
-    waiting::release(set, paper, wire)
+    waiting::release(commands::ordered(e, c), paper, wire)
 }
 
 // As RCTE ends: what was gathered goes out, then each waiting key is taken up as without RCTE.
@@ -161,15 +164,11 @@ pub fn rcte_ended(e: Rcte, echoed: bool, paper: &mut [u8], wire: &mut [u8]) -> R
     requires room_for_2 { RoomFor (control.rcte_ended echoed (view_rcte e)).wire wire.old }
     ensures { RefinesStep (control.rcte_ended echoed (view_rcte e)) e (lent paper) (lent wire) result }
 {
-    let g = parts::gathered_of(e);
-    let first = taking::flush(g, wire);
-    let n = first.count;
+    let n = e.gathered_bytes().flush(wire);
     let rest = waiting::send_waiting(e, echoed, paper, &mut wire[n..]);
-    let m = rest.wire;
-    let rcte = started();
     RcteStep {
         paper: rest.paper,
-        wire: n + m,
-        rcte,
+        wire: n + rest.wire,
+        rcte: started(),
     }
 }

@@ -1,4 +1,5 @@
 -- What a call of the bulletin end does to its macros and issues is one of a few changes, and the events that are seen of it tell which.
+use Rattle.std.specs.Prelude.{Option, Some, None, Result, Ok, Err}
 use mathlib.Core.Path.{◌≡◌, refl, sym, subst, ◌∙◌}
 use mathlib.Core.Bool.{Bool, true, false, cond, and-false}
 use mathlib.Core.List.{List, [], ◌∷◌}
@@ -21,7 +22,7 @@ use Rattle.negotiation.specs.declared.End.{End}
 use Rattle.negotiation.specs.declared.OptionState.{OptionState}
 use Rattle.negotiation.specs.declared.Side.{Side}
 use Rattle.negotiation.specs.declared.Side.TheVariants.{Echo, BulletinSga, Rcte, Macro, PrinterSga, Disposes, Uncarried}
-use Rattle.negotiation.specs.declared.Asking.{Asking}
+use Rattle.negotiation.specs.declared.Move.{Move}
 use Rattle.negotiation.specs.Table.{is_yes}
 use Rattle.negotiation.specs.Carried.{reply_bytes, asked_side, asked_whose, asked_enable, asking_of, asked_by, disposition_in_force, heard_by}
 use Rattle.reader.specs.declared.Item.{Item}
@@ -29,12 +30,10 @@ use Rattle.reader.specs.declared.Item.TheVariants.{Nothing, Data, Negotiated, Bo
 use Rattle.reader.specs.Reading.{ReaderState, gives, idle, read, by_option}
 use Rattle.bodies.specs.declared.MacroReply.{MacroReply}
 use Rattle.bodies.specs.declared.MacroReply.TheVariants.{Accept, Refuse, PleaseCancel}
-use Rattle.bodies.specs.declared.ReplyBody.{ReplyBody}
-use Rattle.bodies.specs.declared.ValueBody.{ValueBody}
 use Rattle.bodies.specs.MacroBodies.{reply_body}
 use Rattle.bodies.specs.ValueBodies.{value_body}
-use Rattle.subnegotiation.specs.declared.Checked.{Checked}
-use Rattle.subnegotiation.specs.Checks.{in_force, disposition_checked, option_checked, checked}
+use Rattle.subnegotiation.specs.declared.Subject.{Subject}
+use Rattle.subnegotiation.specs.Checks.{Checked, in_force, disposition_checked, option_checked, checked}
 use Rattle.sent_macros.specs.Sending.{Definitions, no_definitions, sent_of, is_accepted, on_accept, on_refuse, defining, define_bytes}
 use Rattle.issues.specs.declared.Issues.{Issues}
 use Rattle.issues.specs.Issues.{with_present, keeping, forgetting}
@@ -118,19 +117,19 @@ module _ (s : BulletinState) (empty : EmptyWhileOff s) where
       (empty_steps.replies s (Refuse x) empty off ∙ sym (empty off)) (refuses x)
   unheeded off (PleaseCancel x) = rw (no_bytes x (x ∷ [])) keeps
 
-  reply_seen : (r : ReplyBody) → StepSeen s (reply_body_events r (reply_read s r).wire) s.reader (reply_read s r).state
-  reply_seen ReplyBody.Unreadable = (keeps, refl)
-  reply_seen (ReplyBody.Readable r) = (replied_change s r, refl)
+  reply_seen : (r : Option MacroReply) → StepSeen s (reply_body_events r (reply_read s r).wire) s.reader (reply_read s r).state
+  reply_seen None = (keeps, refl)
+  reply_seen (Some r) = (replied_change s r, refl)
 
-  inactive_seen : bm_in_force s ≡ false → (r : ReplyBody) → StepSeen s (reply_body_events r []) s.reader s
-  inactive_seen off ReplyBody.Unreadable = (keeps, refl)
-  inactive_seen off (ReplyBody.Readable r) = (unheeded off r, refl)
+  inactive_seen : bm_in_force s ≡ false → (r : Option MacroReply) → StepSeen s (reply_body_events r []) s.reader s
+  inactive_seen off None = (keeps, refl)
+  inactive_seen off (Some r) = (unheeded off r, refl)
 
-  value_seen : (d : Disposition) (v : ValueBody) → StepSeen s [] s.reader (value_read s d v).state
-  value_seen d ValueBody.Unreadable = (keeps, refl)
-  value_seen d (ValueBody.Readable v) = (keeps, refl)
+  value_seen : (d : Disposition) (v : Option ℕ) → StepSeen s [] s.reader (value_read s d v).state
+  value_seen d None = (keeps, refl)
+  value_seen d (Some v) = (keeps, refl)
 
-  macro_seen : (body : List ℕ) (on : Bool) → bm_in_force s ≡ on → let d = body_handled s body (in_force on Checked.Macro) in
+  macro_seen : (body : List ℕ) (on : Bool) → bm_in_force s ≡ on → let d = body_handled s body (in_force on Subject.Macro) in
       StepSeen s (reply_body_events (reply_body body) d.wire) s.reader d.state
   macro_seen body true e = reply_seen (reply_body body)
   macro_seen body false e = inactive_seen e (reply_body body)
@@ -143,7 +142,7 @@ module _ (s : BulletinState) (empty : EmptyWhileOff s) where
       (disposition_numbered option)
 
   option_seen : (body : List ℕ) (option : ℕ) (bm : Bool)
-      → let d = body_handled s body (cond bm (in_force (bm_in_force s) Checked.Macro) (disposition_checked s.sides option)) in
+      → let d = body_handled s body (cond bm (in_force (bm_in_force s) Subject.Macro) (disposition_checked s.sides option)) in
       StepSeen s (cond bm (reply_body_events (reply_body body) d.wire) []) s.reader d.state
   option_seen body option true = macro_seen body (bm_in_force s) refl
   option_seen body option false = disposition_seen body option
@@ -193,9 +192,9 @@ module _ (s : BulletinState) where
       side : Side
       side = asked_side End.Bulletin option way
 
-      go : (a : Asking) → Seen s (ask option way w) (asked_by (B.refused s) (λ q r. done (side_moved s side q (reply_bytes (asked_whose way) r option))) a)
-      go (Asking.Refused k) = record { change = either (Changed s s) (is_done k) keeps keeps; reader = either (λ r. s.reader ≡ r) (is_done k) refl refl }
-      go (Asking.Moves q r) = done_seen (side_seen s side q)
+      go : (a : Result Move Code) → Seen s (ask option way w) (asked_by (B.refused s) (λ q r. done (side_moved s side q (reply_bytes (asked_whose way) r option))) a)
+      go (Err k) = record { change = either (Changed s s) (is_done k) keeps keeps; reader = either (λ r. s.reader ≡ r) (is_done k) refl refl }
+      go (Ok m) = done_seen (side_seen s side m.next)
 
   module _ (empty : EmptyWhileOff s) where
     pub call_seen : (c : Call) → Seen s c (called s c)

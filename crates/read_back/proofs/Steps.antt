@@ -11,7 +11,7 @@ use Rattle.rcte.specs.Control.{RcteState}
 use Rattle.printer.specs.State.{PrinterState, Effect, nothing, followed, with_reader, rcte_in_force}
 use Rattle.printer.specs.Calls.{network_call}
 use Rattle.read_back.specs.ReadBack.{OnlyHolds, rcte_after}
-use Rattle.printer.proofs.Steps.{followed_assoc, followed_nothing}
+use Rattle.printer.specs.NetworkEnd.{followed_assoc, followed_nothing}
 
 -- one network byte, with the least buffers
 abbrev pub reads : PrinterState → ℕ → Effect

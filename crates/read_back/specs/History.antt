@@ -1,6 +1,6 @@
 -- The history of a session at the bulletin end, as somebody has it who writes down the calls, their answers and the bytes of the line, and
 -- sees nothing of the end's state.
-use Rattle.std.specs.Prelude.{◌≡◌, cond, ℕ, eqb}
+use Rattle.std.specs.Prelude.{◌≡◌, cond, ℕ, eqb, Option, Some, None}
 use mathlib.Core.List.{List, [], ◌∷◌, ◌++◌, Memᴰ}
 use Rattle.lists.specs.Choice.{is_same}
 use Rattle.codes.specs.Answers.{is_done}
@@ -9,7 +9,6 @@ use Rattle.codes.specs.declared.Code.{Code}
 use Rattle.reader.specs.Reading.{ReaderState, ReadEffect, idle, read, by_option, item_by}
 use Rattle.bodies.specs.declared.MacroReply.{MacroReply}
 use Rattle.bodies.specs.declared.MacroReply.TheVariants.{Accept, Refuse, PleaseCancel}
-use Rattle.bodies.specs.declared.ReplyBody.{ReplyBody}
 use Rattle.bodies.specs.MacroBodies.{reply_body}
 use Rattle.sent_macros.specs.Sending.{define_bytes}
 use Rattle.bulletin.specs.State as B
@@ -44,9 +43,9 @@ reply_events (Accept x) wire = accepted x ∷ []
 reply_events (Refuse x) wire = refused x ∷ []
 reply_events (PleaseCancel x) wire = cond (is_same wire (define_bytes x (x ∷ []))) (defined x (x ∷ []) ∷ []) []
 
-abbrev pub reply_body_events : ReplyBody → (wire : List ℕ) → List Event
-reply_body_events ReplyBody.Unreadable wire = []
-reply_body_events (ReplyBody.Readable r) wire = reply_events r wire
+abbrev pub reply_body_events : Option MacroReply → (wire : List ℕ) → List Event
+reply_body_events None wire = []
+reply_body_events (Some r) wire = reply_events r wire
 
 -- the end of a body that is BM's and not marred
 abbrev pub body_events : ReaderState → (wire : List ℕ) → List Event

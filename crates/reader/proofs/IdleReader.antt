@@ -1,12 +1,9 @@
 -- The reader that the code makes is the rules' idle reader.
-use mathlib.Core.Path.{◌≡◌, refl}
+use mathlib.Core.Path.{refl}
 use mathlib.Core.List.{[]}
 use Rattle.lists.proofs.Zeros.{clean_append}
-use Rattle.reader.specs.Reading.{idle, body_room}
-use Rattle.reader.specs.Refinement.{view_reader, CleanReader, idle_cells}
-
-pub idle_view : view_reader idle_cells ≡ idle
-idle_view = refl
+use Rattle.reader.specs.Reading.{body_room}
+use Rattle.reader.specs.Refinement.{CleanReader, idle_cells}
 
 pub idle_clean : CleanReader idle_cells
 idle_clean = clean_append [] 0 body_room refl

@@ -2,7 +2,7 @@
 use mathlib.Core.Path.{◌≡◌, refl, sym, ap, ap₂, ◌∙◌}
 use mathlib.Core.Bool.{Bool, true, false, not, ◌&&◌, false≢true}
 use mathlib.Core.List.{List, [], ◌∷◌, ◌++◌}
-use Prim.Native.Nat.{ℕ, suc, ◌+◌, ◌-◌, ◌≤◌, ◌<◌}
+use Prim.Native.Nat.{ℕ, suc, ◌+◌, ◌-◌, ◌≤◌}
 use native.Mathlib.Omega.{arith}
 use borrow.Author.Tests.{le-ltb, ne_eqb}
 use lib.Dec.{eqb}
@@ -14,27 +14,7 @@ use Rattle.codes.specs.declared.Note.{Note}
 use Rattle.codes.specs.declared.Note.TheVariants.{Clear}
 use Rattle.codes.proofs.Notes.{clear_is}
 use Rattle.reader.specs.NetworkRun.{OneByte, RunEffect, cannot_begin, stays, further, ran_from, run_from, answers_of, effect_of_all, AllTaken, IsCalls, RunIsCalls, Stops, RunStops}
-
--- What a run needs of an end: a byte is refused where a buffer is too small, else read; steps one behind the other write their bytes
--- so; and a plain step writes bytes to the first buffer, and nothing else happens.
-pub record Lawful {S D A : Type 0} (e : OneByte S D A) : Type 0 where
-  pub read : S → ℕ → D
-  pub plain : List ℕ → S → D
-  pub refused : (s : S) (b p w : ℕ) → no_room p w ≡ true → e.code (e.call s b p w) ≡ NoRoom
-  pub done : (s : S) (b p w : ℕ) → no_room p w ≡ false → (e.code (e.call s b p w) ≡ Done) × (e.effect (e.call s b p w) ≡ read s b)
-  pub note_both : (c d : D) → e.note (e.followed c d) ≡ first_note (e.note c) (e.note d)
-  pub first_both : (c d : D) → e.first (e.followed c d) ≡ e.first c ++ e.first d
-  pub wire_both : (c d : D) → e.wire (e.followed c d) ≡ e.wire c ++ e.wire d
-  pub state_both : (c d : D) → e.state (e.followed c d) ≡ e.state d
-  pub assoc : (c d f : D) → e.followed (e.followed c d) f ≡ e.followed c (e.followed d f)
-  pub none_before : (s : S) (d : D) → e.followed (e.nothing s) d ≡ d
-  pub none_behind : (d : D) → e.followed d (e.nothing (e.state d)) ≡ d
-  pub plain_none : (s : S) → plain [] s ≡ e.nothing s
-  pub plain_more : (x : ℕ) (xs : List ℕ) (s : S) → e.followed (plain (x ∷ []) s) (plain xs s) ≡ plain (x ∷ xs) s
-  pub plain_note : (xs : List ℕ) (s : S) → e.note (plain xs s) ≡ Clear
-  pub plain_first : (xs : List ℕ) (s : S) → e.first (plain xs s) ≡ xs
-  pub plain_wire : (xs : List ℕ) (s : S) → e.wire (plain xs s) ≡ []
-  pub plain_state : (xs : List ℕ) (s : S) → e.state (plain xs s) ≡ s
+use Rattle.reader.specs.NetworkEnd.{Lawful, PlainAt}
 
 has_room : (p w : ℕ) → paper_room ≤ p → wire_room ≤ w → no_room p w ≡ false
 has_room p w h k = rw (le-ltb p paper_room h, le-ltb w wire_room k)
@@ -76,10 +56,6 @@ module _ {S D A : Type 0} {e : OneByte S D A} (l : Lawful e) where
       let sums : n + 0 ≡ n = omega arith in
       rw (sums, l.none_behind d)
 
-  -- each byte is plain in the state s
-  abbrev pub PlainAt : S → List ℕ → Type 0
-  PlainAt s xs = (j : ℕ) → j < length xs → next s (get_or xs j 0) ≡ l.plain (get_or xs j 0 ∷ []) s
-
   -- a plain stretch, as long as each of its bytes has room, is one step of a run
   PlainRun : S → List ℕ → List ℕ → ℕ → ℕ → Type 0
   PlainRun s xs ys p w = ran_from e s (xs ++ ys) p w ≡ further e (length xs) (l.plain xs s) (ran_from e s ys (p - length xs) w)
@@ -102,13 +78,13 @@ module _ {S D A : Type 0} {e : OneByte S D A} (l : Lawful e) where
       ∙ further_both 1 (length xs) (l.plain (x ∷ []) s) (l.plain xs s) (ran_from e s ys (p - 1 - length xs) w)
       ∙ (rw (sums, left, l.plain_more x xs s) refl)
 
-  ran_stretch : (s : S) (xs ys : List ℕ) (p w : ℕ) → PlainAt s xs → length xs + 1023 ≤ p → wire_room ≤ w → PlainRun s xs ys p w
+  ran_stretch : (s : S) (xs ys : List ℕ) (p w : ℕ) → PlainAt l s xs → length xs + 1023 ≤ p → wire_room ≤ w → PlainRun s xs ys p w
   ran_stretch s [] ys p w plain room wire = stretch_none s ys p w
   ran_stretch s (x ∷ xs) ys p w plain room wire =
       stretch_more s x xs ys p w (plain 0 (omega arith)) (omega arith) wire
       (ran_stretch s xs ys (p - 1) w (λ j h. plain (suc j) (omega arith)) (omega arith) wire)
 
-  pub ran_plain : (s : S) (xs ys : List ℕ) (p w : ℕ) → PlainAt s xs → length xs + 1023 ≤ p → wire_room ≤ w
+  pub ran_plain : (s : S) (xs ys : List ℕ) (p w : ℕ) → PlainAt l s xs → length xs + 1023 ≤ p → wire_room ≤ w
       → ran_from e s (xs ++ ys) p w ≡ further e (length xs) (l.plain xs s) (ran_from e s ys (p - length xs) w)
   unfolding PlainRun
   ran_plain s xs ys p w plain room wire = ran_stretch s xs ys p w plain room wire

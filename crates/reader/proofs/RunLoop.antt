@@ -1,281 +1,238 @@
--- A run of network bytes in code, at either end: the loop's invariant, and that a byte and a plain stretch keep it.
+-- A run of network bytes in code, at either end: what is taken at the front of it, and the loop's invariant.
 use mathlib.Core.Path.{◌≡◌, refl, sym, ap, subst, ◌∙◌}
-use mathlib.Core.Bool.{true, false}
-use mathlib.Core.List.{List, [], ◌∷◌, ◌++◌, append-nil}
-use Prim.Native.Nat.{ℕ, ◌+◌, ◌-◌, ◌≤◌, ◌<◌}
-use native.Mathlib.Numerals.{add-one}
+use mathlib.Core.Bool.{Bool, true, false, cond}
+use mathlib.Core.List.{List, [], ◌∷◌, ◌++◌}
+use Prim.Native.Nat.{ℕ, ◌+◌, ◌-◌, ◌≤◌, ◌<◌, min}
 use native.Mathlib.Omega.{arith}
 use lib.ListN.{length, take, drop, get_or, length-append, length-take, length-drop, take-append-drop, drop_of_length-le}
-use lib.Seq.{drop-cons, drop-drop, take-take}
+use lib.Seq.{take_all, take-take}
 use Rattle.lists.specs.Buffers.{Lent, lent_as, untouched, WroteAtStart, RoomFor}
 use Rattle.lists.proofs.Starts.{wrote_none}
 use Rattle.lists.proofs.Parts.{rest_of, with_rest, wrote_then, counted, same_long}
-use Rattle.codes.specs.Answers.{first_note, no_room, paper_room, wire_room, is_clear}
+use Rattle.codes.specs.Answers.{first_note, no_room, is_clear}
 use Rattle.codes.specs.declared.Note.{Note}
-use Rattle.codes.specs.declared.Note.TheVariants.{Clear}
+use Rattle.codes.specs.declared.Note.TheVariants.{Clear, Unreadable, Inactive, OtherOption, Stray}
+use Rattle.codes.specs.contracts.Note.{the_type}
+use denote.Enum.Bare.{sameb}
 use Rattle.codes.proofs.Notes.{clear_is}
 use Rattle.codes.proofs.Rooms.{both_lent}
-use Rattle.reader.specs.NetworkRun.{OneByte, RunEffect, reach_of, stays, further, ran_from}
-use Rattle.reader.proofs.NetworkRun.{Lawful, PlainAt, ran_full, ran_none, ran_next, ran_last, ran_plain, further_both, further_none, further_stays}
+use Rattle.reader.specs.declared.network_runs.Ran.{Ran}
+use Rattle.reader.specs.NetworkRun.{OneByte, RunEffect, stays, further, ran_from}
+use Rattle.reader.specs.NetworkEnd.{Lawful, PlainAt, Stepped, Finished, TookFront}
+use Rattle.reader.proofs.NetworkRun.{ran_full, ran_none, ran_next, ran_last, ran_plain, further_both, further_none, further_stays}
 
 -- how much of a buffer is unused
 abbrev pub left_of : Lent → ℕ → ℕ
 left_of out n = length out.after - n
 
-rest_long : (out : Lent) (n : ℕ) → length (rest_of out n) ≡ left_of out n
-rest_long out n = simp (length-take, length-drop) (omega arith)
+module _ {S D A C : Type 0} {e : OneByte S D A} (l : Lawful e) (view : C → S) (Kept : C → C → Type 0) where
+  -- a plain stretch at the front, looked for as far as each of its bytes has room, and copied
+  module _ (s : C) (bytes first wire : List ℕ) (room : no_room (length first) (length wire) ≡ false)
+      (n reach : ℕ) (reached : reach ≡ min (length bytes) (length first - 1023)) (within : n ≤ length (take reach bytes))
+      (plain : PlainAt l (view s) (take n (take reach bytes))) where
+    stretch : List ℕ
+    stretch = take n bytes
 
--- C are the code's states, each seen as one of the rules
-module _ {S D A C : Type 0} {e : OneByte S D A} (l : Lawful e) (view : C → S) (Clean : C → Type 0) where
-  -- a step of the code did d, and wrote p and w bytes at the start of two buffers
-  pub record Stepped (d : D) (s t : C) (n : Note) (first wire : Lent) (p w : ℕ) : Type 0 where
-    pub note : n ≡ e.note d
-    pub on_first : WroteAtStart (e.first d) first p
-    pub on_wire : WroteAtStart (e.wire d) wire w
-    pub sees : view t ≡ e.state d
-    pub clean : Clean s → Clean t
+    short : n ≤ reach
+    short = omega (arith, simp length-take at within)
 
-  -- the code did what a run does
-  pub record Finished (r : RunEffect D) (s t : C) (n : Note) (k : ℕ) (first wire : Lent) (p w : ℕ) : Type 0 where
-    pub taken : k ≡ r.taken
-    pub step : Stepped r.effect s t n first wire p w
+    stretch_long : length stretch ≡ n
+    unfolding stretch
+    stretch_long = simp length-take (omega (arith, simp length-take at within))
 
-  -- i bytes are taken: what they did, and what is still to come in the tails that are left
-  pub record RunInvariant (s : C) (bytes : List ℕ) (first wire : Lent) (t : C) (i p w : ℕ) : Type 0 where
-    pub within : i ≤ length bytes
+    stretch_plain : PlainAt l (view s) stretch
+    unfolding stretch
+    stretch_plain = subst (λ (xs : List ℕ). PlainAt l (view s) xs) (take-take n reach bytes short) plain
+
+    whole : stretch ++ drop n bytes ≡ bytes
+    unfolding stretch
+    whole = take-append-drop n bytes
+
+    pub took_stretch : 0 < n → Kept s s → TookFront l view Kept s s bytes (lent_as first (take n bytes ++ drop n first)) (untouched wire) (record { note = Clear; taken = n; first = n; wire = 0 })
+    unfolding stretch
+    took_stretch some still =
+        let lent = both_lent (length first) (length wire) room in
+        let same : length wire - 0 ≡ length wire = omega arith in
+        record {
+          some = some;
+          within = omega (arith, simp length-take at within);
+          effect = l.plain stretch (view s);
+          step = record {
+            note = sym (l.plain_note stretch (view s));
+            on_first = rw (l.plain_first stretch (view s)) (record { count = sym stretch_long; cells = rw stretch_long refl });
+            on_wire = rw (l.plain_wire stretch (view s)) (wrote_none wire);
+            sees = sym (l.plain_state stretch (view s));
+            kept = still;
+          };
+          rest = rw (l.plain_state stretch (view s), same) (rw (whole, stretch_long) at (ran_plain l (view s) stretch (drop n bytes) (length first) (length wire) stretch_plain (omega (arith, stretch_long, short, lent.0)) lent.1));
+        }
+
+  -- the byte at the front by itself
+  module _ (s t : C) (first wire : Lent) (n : Note) (p w : ℕ) (room : no_room (length first.before) (length wire.before) ≡ false) where
+    on_from : (b : ℕ) (more : List ℕ) (c : Bool) → is_clear n ≡ c → Stepped l view Kept (l.read (view s) b) s t n first wire p w
+        → ran_from e (view s) (b ∷ more) (length first.before) (length wire.before)
+        ≡ cond c
+        (further e 1 (l.read (view s) b) (ran_from e (e.state (l.read (view s) b)) more (length first.before - p) (length wire.before - w)))
+        (record { taken = 1; effect = l.read (view s) b })
+    on_from b more true h m = rw (m.on_first.count, m.on_wire.count) (ran_next l (view s) b more (length first.before) (length wire.before) room (rw m.note at h))
+    on_from b more false h m = ran_last l (view s) b more (length first.before) (length wire.before) room (rw m.note at h)
+
+    pub took_byte : (bytes : List ℕ) → 0 < length bytes → Stepped l view Kept (l.read (view s) (get_or bytes 0 0)) s t n first wire p w
+        → TookFront l view Kept s t bytes first wire (record { note = n; taken = 1; first = p; wire = w })
+    took_byte [] some m = absurd (omega (arith, some))
+    took_byte (b ∷ more) some m = record {
+      some = omega arith;
+      within = omega arith;
+      effect = l.read (view s) b;
+      step = m;
+      rest = on_from b more (is_clear n) refl m;
+    }
+
+  -- some bytes are read: what they did, and what is still to come, with the rest in the tails that are left
+  pub record RunInvariant (s : C) (bytes : List ℕ) (first wire : Lent) (t : C) (rest : List ℕ) (r : Ran) : Type 0 where
+    pub count : r.taken + length rest ≡ length bytes
     pub effect : D
-    pub all : further e i effect (ran_from e (e.state effect) (drop i bytes) (left_of first p) (left_of wire w)) ≡ ran_from e (view s) bytes (length first.before) (length wire.before)
-    pub step : Stepped effect s t Clear first wire p w
+    pub step : Stepped l view Kept effect s t r.note first wire r.first r.wire
     pub first_fits : RoomFor (e.first effect) first.before
     pub wire_fits : RoomFor (e.wire effect) wire.before
+    pub all : ran_from e (view s) bytes (length first.before) (length wire.before)
+        ≡ cond (is_clear r.note)
+        (further e r.taken effect (ran_from e (e.state effect) rest (left_of first r.first) (left_of wire r.wire)))
+        (record { taken = r.taken; effect = effect })
 
-  pub begun : (s : C) (bytes first wire : List ℕ) → RunInvariant s bytes (untouched first) (untouched wire) s 0 0 0
-  begun s bytes first wire =
+module _ {S D A C : Type 0} (e : OneByte S D A) (l : Lawful e) (view : C → S) (Kept : C → C → Type 0) where
+  pub begun : (s : C) (bytes first wire : List ℕ) → Kept s s
+      → RunInvariant l view Kept s bytes (untouched first) (untouched wire) s bytes (record { note = Clear; taken = 0; first = 0; wire = 0 })
+  begun s bytes first wire still =
       let a : length first - 0 ≡ length first = omega arith in
       let b : length wire - 0 ≡ length wire = omega arith in
       let none = l.plain_none (view s) in
-      let on-first : e.first (e.nothing (view s)) ≡ [] = rw (← none) (l.plain_first [] (view s)) in
-      let on_wire_lem : e.wire (e.nothing (view s)) ≡ [] = rw (← none) (l.plain_wire [] (view s)) in
+      let on_first : e.first (e.nothing (view s)) ≡ [] = rw (← none) (l.plain_first [] (view s)) in
+      let on_wire : e.wire (e.nothing (view s)) ≡ [] = rw (← none) (l.plain_wire [] (view s)) in
       let state : e.state (e.nothing (view s)) ≡ view s = rw (← none) (l.plain_state [] (view s)) in
       let clear : e.note (e.nothing (view s)) ≡ Clear = rw (← none) (l.plain_note [] (view s)) in
       record {
-        within = omega arith;
+        count = omega arith;
         effect = e.nothing (view s);
-        all = rw (a, b, state) (further_none l (view s) (ran_from e (view s) bytes (length first) (length wire)));
-        step = record { note = sym clear; on_first = rw on-first (wrote_none first); on_wire = rw on_wire_lem (wrote_none wire); sees = sym state; clean = λ k. k };
-        first_fits = rw on-first (omega arith);
-        wire_fits = rw on_wire_lem (omega arith);
+        step = record { note = sym clear; on_first = rw on_first (wrote_none first); on_wire = rw on_wire (wrote_none wire); sees = sym state; kept = still };
+        first_fits = rw on_first (omega arith);
+        wire_fits = rw on_wire (omega arith);
+        all = rw (a, b, state) (sym (further_none l (view s) (ran_from e (view s) bytes (length first) (length wire))));
       }
 
-module _ {S D A C : Type 0} {e : OneByte S D A} {l : Lawful e} {view : C → S} {Clean : C → Type 0} {s : C} {bytes : List ℕ} {first wire : Lent} {t : C} {i p w : ℕ}
-    (g : RunInvariant l view Clean s bytes first wire t i p w) where
-  pub first_long : length first.after ≡ length first.before
-  first_long = same_long g.step.on_first g.first_fits
+-- what was written of a buffer that kept its length fits it
+written : {bytes : List ℕ} {out : Lent} {n : ℕ} → WroteAtStart bytes out n → length out.after ≡ length out.before → RoomFor bytes out.before
+written {bytes} {out} w same =
+    let long : length out.after ≡ length bytes + (length out.before - length bytes) = rw w.cells (simp (length-append, length-drop) refl) in
+    omega (arith, long, same)
 
-  pub wire_long : length wire.after ≡ length wire.before
-  wire_long = same_long g.step.on_wire g.wire_fits
+rest_long : (out : Lent) (n : ℕ) → length (rest_of out n) ≡ left_of out n
+rest_long out n = simp (length-take, length-drop) (omega arith)
 
-  pub first_in : p ≤ length first.after
-  first_in = omega (arith, counted g.step.on_first g.first_fits, first_long)
+module _ {S D A C : Type 0} {e : OneByte S D A} {l : Lawful e} {view : C → S} {Kept : C → C → Type 0} {s : C} {bytes : List ℕ} {first wire : Lent} {t : C}
+    {rest : List ℕ} {r : Ran} (g : RunInvariant l view Kept s bytes first wire t rest r) where
+  pub first_in : r.first ≤ length first.after
+  first_in = omega (arith, counted g.step.on_first g.first_fits, same_long g.step.on_first g.first_fits)
 
-  pub wire_in : w ≤ length wire.after
-  wire_in = omega (arith, counted g.step.on_wire g.wire_fits, wire_long)
+  pub wire_in : r.wire ≤ length wire.after
+  wire_in = omega (arith, counted g.step.on_wire g.wire_fits, same_long g.step.on_wire g.wire_fits)
 
-  -- nothing more is taken
-  stopped : ran_from e (e.state g.effect) (drop i bytes) (left_of first p) (left_of wire w) ≡ stays e (e.state g.effect)
-      → Finished l view Clean (ran_from e (view s) bytes (length first.before) (length wire.before)) s t Clear i first wire p w
-  stopped h =
-      let is : ran_from e (view s) bytes (length first.before) (length wire.before) ≡ record { taken = i; effect = g.effect } = sym g.all ∙ ap (λ (r : RunEffect D). further e i g.effect r) h ∙ further_stays l i g.effect in
-      rw is (record { taken = refl; step = g.step })
+  -- nothing more is taken: behind a note, with no byte left, or with no room for one
+  is_over : (ran_from e (view s) bytes (length first.before) (length wire.before)) ≡ record { taken = r.taken; effect = g.effect } → Finished l view Kept (ran_from e (view s) bytes (length first.before) (length wire.before)) s t first wire r
+  is_over h = rw h (record { taken = refl; step = g.step })
 
-  pub stopped_full : no_room (left_of first p) (left_of wire w) ≡ true → Finished l view Clean (ran_from e (view s) bytes (length first.before) (length wire.before)) s t Clear i first wire p w
-  stopped_full h = stopped (ran_full l (e.state g.effect) (drop i bytes) (left_of first p) (left_of wire w) h)
+  stays_so : ran_from e (e.state g.effect) rest (left_of first r.first) (left_of wire r.wire) ≡ stays e (e.state g.effect) → Finished l view Kept (ran_from e (view s) bytes (length first.before) (length wire.before)) s t first wire r
+  stays_so h = go (is_clear r.note) g.all
+    where
+      go : (c : Bool) → (ran_from e (view s) bytes (length first.before) (length wire.before)) ≡ cond c (further e r.taken g.effect (ran_from e (e.state g.effect) rest (left_of first r.first) (left_of wire r.wire))) (record { taken = r.taken; effect = g.effect }) → Finished l view Kept (ran_from e (view s) bytes (length first.before) (length wire.before)) s t first wire r
+      go true k = is_over (k ∙ ap (λ (x : RunEffect D). further e r.taken g.effect x) h ∙ further_stays l r.taken g.effect)
+      go false k = is_over k
 
-  pub stopped_over : length bytes ≤ i → Finished l view Clean (ran_from e (view s) bytes (length first.before) (length wire.before)) s t Clear i first wire p w
-  stopped_over le =
-      let none : drop i bytes ≡ [] = drop_of_length-le bytes {i = i} le in
-      stopped (rw none (ran_none l (e.state g.effect) (left_of first p) (left_of wire w)))
+  pub over_noted : is_clear r.note ≡ false → Finished l view Kept (ran_from e (view s) bytes (length first.before) (length wire.before)) s t first wire r
+  over_noted n = is_over (rw n at g.all)
 
-  -- k bytes more did d, and left the run that there is with the others
-  module _ (k : ℕ) (d : D) {t' : C} {n : Note} {last_first last_wire : List ℕ} {q u : ℕ} (inside : i + k ≤ length bytes)
-      (m : Stepped l view Clean (e.followed g.effect d) s t' n (lent_as first.before last_first) (lent_as wire.before last_wire) q u)
-      (fits : RoomFor (e.first (e.followed g.effect d)) first.before) (wire_fits_lem : RoomFor (e.wire (e.followed g.effect d)) wire.before) where
-    first_left : left_of first p - length (e.first d) ≡ length last_first - q
-    first_left =
-        let both : q ≡ length (e.first g.effect) + length (e.first d) = m.on_first.count ∙ ap length (l.first_both g.effect d) ∙ length-append (e.first g.effect) (e.first d) in
-        omega (arith, both, g.step.on_first.count, same_long m.on_first fits, first_long)
+  pub over_empty : length rest ≡ 0 → Finished l view Kept (ran_from e (view s) bytes (length first.before) (length wire.before)) s t first wire r
+  over_empty none =
+      let empty : rest ≡ [] = drop_of_length-le rest {i = 0} (omega (arith, none)) in
+      stays_so (ap (λ (xs : List ℕ). ran_from e (e.state g.effect) xs (left_of first r.first) (left_of wire r.wire)) empty ∙ ran_none l (e.state g.effect) (left_of first r.first) (left_of wire r.wire))
 
-    wire_left : left_of wire w - length (e.wire d) ≡ length last_wire - u
-    wire_left =
-        let both : u ≡ length (e.wire g.effect) + length (e.wire d) = m.on_wire.count ∙ ap length (l.wire_both g.effect d) ∙ length-append (e.wire g.effect) (e.wire d) in
-        omega (arith, both, g.step.on_wire.count, same_long m.on_wire wire_fits_lem, wire_long)
+  pub over_full : no_room (left_of first r.first) (left_of wire r.wire) ≡ true → Finished l view Kept (ran_from e (view s) bytes (length first.before) (length wire.before)) s t first wire r
+  over_full full = stays_so (ran_full l (e.state g.effect) rest (left_of first r.first) (left_of wire r.wire) full)
 
-    onward : n ≡ Clear
-        → ran_from e (e.state g.effect) (drop i bytes) (left_of first p) (left_of wire w)
-        ≡ further e k d (ran_from e (e.state d) (drop (i + k) bytes) (left_of first p - length (e.first d)) (left_of wire w - length (e.wire d)))
-        → RunInvariant l view Clean s bytes (lent_as first.before last_first) (lent_as wire.before last_wire) t' (i + k) q u
-    onward c h =
-        let later = ran_from e (e.state d) (drop (i + k) bytes) (length last_first - q) (length last_wire - u) in
-        let step : ran_from e (e.state g.effect) (drop i bytes) (left_of first p) (left_of wire w) ≡ further e k d later = rw (← first_left, ← wire_left) h in
+  -- bytes at the front of the rest were taken
+  module _ (clear : is_clear r.note ≡ true) {t' : C} {last_first last_wire : List ℕ} {f : Ran}
+      (m : TookFront l view Kept t t' rest (lent_as (rest_of first r.first) last_first) (lent_as (rest_of wire r.wire) last_wire) f)
+      (first_long : length last_first ≡ length (rest_of first r.first)) (wire_long : length last_wire ≡ length (rest_of wire r.wire))
+      (onward : (a b c : C) → Kept a b → Kept b c → Kept a c) where
+    both : D
+    both = e.followed g.effect m.effect
+
+    both_step : Stepped l view Kept both s t' f.note (with_rest first r.first last_first) (with_rest wire r.wire last_wire) (r.first + f.first) (r.wire + f.wire)
+    unfolding both
+    both_step =
+        let was : e.note g.effect ≡ Clear = sym g.step.note ∙ clear_is r.note clear in
         record {
-          within = inside;
-          effect = e.followed g.effect d;
-          all = (rw (l.state_both g.effect d) (sym (further_both l i k g.effect d later))) ∙ ap (λ (x : RunEffect D). further e i g.effect x) (sym step) ∙ g.all;
-          step = rw c at m;
-          first_fits = fits;
-          wire_fits = wire_fits_lem;
+          note = m.step.note ∙ sym (l.note_both g.effect m.effect ∙ ap (λ (x : Note). first_note x (e.note m.effect)) was);
+          on_first = rw (l.first_both g.effect m.effect) (wrote_then g.step.on_first g.first_fits (e.first m.effect) last_first f.first m.step.on_first);
+          on_wire = rw (l.wire_both g.effect m.effect) (wrote_then g.step.on_wire g.wire_fits (e.wire m.effect) last_wire f.wire m.step.on_wire);
+          sees = m.step.sees ∙ sym (l.state_both g.effect m.effect);
+          kept = onward s t t' g.step.kept m.step.kept;
         }
 
-  -- a byte by itself
-  module _ (room : no_room (left_of first p) (left_of wire w) ≡ false) (b : ℕ)
-      (fits : (length (e.first (l.read (view t) b)) ≤ paper_room) × (length (e.wire (l.read (view t) b)) ≤ wire_room)) where
-    pub byte_room : RoomFor (e.first (l.read (view t) b)) (rest_of first p) × RoomFor (e.wire (l.read (view t) b)) (rest_of wire w)
-    byte_room =
-        let lent = both_lent (left_of first p) (left_of wire w) room in
-        (omega (arith, fits.0, lent.0, rest_long first p), omega (arith, fits.1, lent.1, rest_long wire w))
+    first_both : RoomFor (e.first both) first.before
+    unfolding both
+    first_both =
+        let part : length (e.first m.effect) ≤ length (rest_of first r.first) = written m.step.on_first first_long in
+        rw (l.first_both g.effect m.effect) (simp length-append (omega (arith, part, rest_long first r.first, g.step.on_first.count, first_in, same_long g.step.on_first g.first_fits)))
 
-    module _ (lt : i < length bytes) (at : get_or bytes i 0 ≡ b) {t' : C} {n : Note} {last_first last_wire : List ℕ} {r v : ℕ}
-        (m : Stepped l view Clean (l.read (view t) b) t t' n (lent_as (rest_of first p) last_first) (lent_as (rest_of wire w) last_wire) r v) where
-      next : D
-      next = l.read (e.state g.effect) b
+    wire_both : RoomFor (e.wire both) wire.before
+    unfolding both
+    wire_both =
+        let part : length (e.wire m.effect) ≤ length (rest_of wire r.wire) = written m.step.on_wire wire_long in
+        rw (l.wire_both g.effect m.effect) (simp length-append (omega (arith, part, rest_long wire r.wire, g.step.on_wire.count, wire_in, same_long g.step.on_wire g.wire_fits)))
 
-      next_is : l.read (view t) b ≡ next
-      unfolding next
-      next_is = ap (λ (x : S). l.read x b) g.step.sees
+    first_left : length (rest_of first r.first) - f.first ≡ left_of (with_rest first r.first last_first) (r.first + f.first)
+    first_left = omega (arith, rest_long first r.first, same_long both_step.on_first first_both, same_long g.step.on_first g.first_fits)
 
-      next_step : Stepped l view Clean next t t' n (lent_as (rest_of first p) last_first) (lent_as (rest_of wire w) last_wire) r v
-      next_step = rw next_is at m
+    wire_left : length (rest_of wire r.wire) - f.wire ≡ left_of (with_rest wire r.wire last_wire) (r.wire + f.wire)
+    wire_left = omega (arith, rest_long wire r.wire, same_long both_step.on_wire wire_both, same_long g.step.on_wire g.wire_fits)
 
-      next_first : RoomFor (e.first (e.followed g.effect next)) first.before
-      next_first =
-          let room-here : RoomFor (e.first next) (rest_of first p) = rw next_is at byte_room.0 in
-          rw (l.first_both g.effect next) (simp length-append (omega (arith, room-here, rest_long first p, g.step.on_first.count, first_in, first_long)))
+    -- the run from here on
+    onward_from : ran_from e (view t) rest (length (rest_of first r.first)) (length (rest_of wire r.wire)) ≡ ran_from e (e.state g.effect) rest (left_of first r.first) (left_of wire r.wire)
+    onward_from = rw (g.step.sees, rest_long first r.first, rest_long wire r.wire) refl
 
-      next_wire : RoomFor (e.wire (e.followed g.effect next)) wire.before
-      next_wire =
-          let room-here : RoomFor (e.wire next) (rest_of wire w) = rw next_is at byte_room.1 in
-          rw (l.wire_both g.effect next) (simp length-append (omega (arith, room-here, rest_long wire w, g.step.on_wire.count, wire_in, wire_long)))
+    goes_on : (c : Bool) → is_clear f.note ≡ c
+        → ran_from e (view s) bytes (length first.before) (length wire.before)
+        ≡ cond c
+        (further e (r.taken + f.taken) both (ran_from e (e.state both) (drop f.taken rest) (left_of (with_rest first r.first last_first) (r.first + f.first)) (left_of (with_rest wire r.wire last_wire) (r.wire + f.wire))))
+        (record { taken = r.taken + f.taken; effect = both })
+    unfolding both
+    goes_on true h =
+        let now = rw clear at g.all in
+        let here = rw h at m.rest in
+        now ∙ ap (λ (x : RunEffect D). further e r.taken g.effect x) (sym onward_from ∙ here) ∙ further_both l r.taken f.taken g.effect m.effect _ ∙ (rw (l.state_both g.effect m.effect, first_left, wire_left) refl)
+    goes_on false h =
+        let now = rw clear at g.all in
+        let here = rw h at m.rest in
+        now ∙ ap (λ (x : RunEffect D). further e r.taken g.effect x) (sym onward_from ∙ here)
 
-      both_step : Stepped l view Clean (e.followed g.effect next) s t' n (with_rest first p last_first) (with_rest wire w last_wire) (p + r) (w + v)
-      both_step = record {
-        note = next_step.note ∙ sym (l.note_both g.effect next ∙ ap (λ (x : Note). first_note x (e.note next)) (sym g.step.note));
-        on_first = rw (l.first_both g.effect next) (wrote_then g.step.on_first g.first_fits (e.first next) last_first r next_step.on_first);
-        on_wire = rw (l.wire_both g.effect next) (wrote_then g.step.on_wire g.wire_fits (e.wire next) last_wire v next_step.on_wire);
-        sees = next_step.sees ∙ sym (l.state_both g.effect next);
-        clean = λ k. next_step.clean (g.step.clean k);
-      }
+    pub turn : RunInvariant l view Kept s bytes (with_rest first r.first last_first) (with_rest wire r.wire last_wire) t' (take (length rest - f.taken) (drop f.taken rest))
+        (record { note = f.note; taken = r.taken + f.taken; first = r.first + f.first; wire = r.wire + f.wire })
+    turn =
+        let all : take (length rest - f.taken) (drop f.taken rest) ≡ drop f.taken rest = take_all (length rest - f.taken) (drop f.taken rest) (simp length-drop (omega arith)) in
+        rw all (record {
+          count = simp length-drop (omega (arith, g.count, m.within));
+          effect = both;
+          step = both_step;
+          first_fits = first_both;
+          wire_fits = wire_both;
+          all = goes_on (is_clear f.note) refl;
+        })
 
-      pub first_counted : p + r ≤ length first.before
-      first_counted = counted both_step.on_first next_first
-
-      pub wire_counted : w + v ≤ length wire.before
-      wire_counted = counted both_step.on_wire next_wire
-
-      pub first_still : length (with_rest first p last_first).after ≡ length first.before
-      first_still = same_long both_step.on_first next_first
-
-      pub wire_still : length (with_rest wire w last_wire).after ≡ length wire.before
-      wire_still = same_long both_step.on_wire next_wire
-
-      cut : drop i bytes ≡ b ∷ drop (i + 1) bytes
-      cut = rw (add-one i, ← at) (drop-cons bytes i 0 lt)
-
-      -- it gave no note: the run goes on
-      pub turn : is_clear n ≡ true
-          → RunInvariant l view Clean s bytes (with_rest first p last_first) (with_rest wire w last_wire) t' (i + 1) (p + r) (w + v)
-      unfolding next
-      turn c =
-          let clear : is_clear (e.note next) ≡ true = rw (← next_step.note) c in
-          onward 1 next (omega arith) both_step next_first next_wire (clear_is n c)
-          (rw cut (ran_next l (e.state g.effect) b (drop (i + 1) bytes) (left_of first p) (left_of wire w) room clear))
-
-      -- it gave one: the run is over
-      pub noted : is_clear n ≡ false
-          → Finished l view Clean (ran_from e (view s) bytes (length first.before) (length wire.before)) s t' n (i + 1) (with_rest first p last_first) (with_rest wire w last_wire) (p + r) (w + v)
-      unfolding next
-      noted c =
-          let given : is_clear (e.note next) ≡ false = rw (← next_step.note) c in
-          let one = ran_last l (e.state g.effect) b (drop (i + 1) bytes) (left_of first p) (left_of wire w) room given in
-          let is : ran_from e (view s) bytes (length first.before) (length wire.before) ≡ record { taken = i + 1; effect = e.followed g.effect next } = sym g.all ∙ ap (λ (x : RunEffect D). further e i g.effect x) (rw cut one) in
-          rw is (record { taken = refl; step = both_step })
-
-  -- a plain stretch of k bytes, looked for as far as each byte has room
-  module _ (room : no_room (left_of first p) (left_of wire w) ≡ false) (end k : ℕ) (reached : end ≡ reach_of i (length bytes) (left_of first p))
-      (short : k ≤ end - i) (plain : PlainAt l (view t) (take k (take (end - i) (drop i bytes)))) where
-    pub stretch_inside : i + k ≤ length bytes
-    stretch_inside = omega (arith, g.within)
-
-    stretch_fits : k + 1023 ≤ left_of first p
-    stretch_fits = omega (arith, (both_lent (left_of first p) (left_of wire w) room).0)
-
-    stretch : List ℕ
-    stretch = take k (drop i bytes)
-
-    stretch_is : take (i + k - i) (drop i bytes) ≡ stretch
-    unfolding stretch
-    stretch_is =
-        let same : i + k - i ≡ k = omega arith in
-        rw same
-
-    stretch_long : length stretch ≡ k
-    unfolding stretch
-    stretch_long = simp (length-take, length-drop) (omega (arith, stretch_inside))
-
-    whole : stretch ++ drop (i + k) bytes ≡ drop i bytes
-    unfolding stretch
-    whole = rw (← drop-drop k i bytes) (take-append-drop k (drop i bytes))
-
-    pub stretch_room : RoomFor (take (i + k - i) (drop i bytes)) (rest_of first p)
-    stretch_room = rw stretch_is (omega (arith, stretch_long, rest_long first p, stretch_fits))
-
-    all_plain : PlainAt l (e.state g.effect) stretch
-    unfolding stretch
-    all_plain =
-        let part : take k (take (end - i) (drop i bytes)) ≡ take k (drop i bytes) = take-take k (end - i) (drop i bytes) short in
-        subst (λ (x : S). PlainAt l x (take k (drop i bytes))) g.step.sees (subst (λ (xs : List ℕ). PlainAt l (view t) xs) part plain)
-
-    module _ {last_first : List ℕ} {r : ℕ} (m : WroteAtStart (take (i + k - i) (drop i bytes)) (lent_as (rest_of first p) last_first) r) where
-      plainly : D
-      plainly = l.plain stretch (e.state g.effect)
-
-      plainly_first : e.first plainly ≡ stretch
-      unfolding plainly
-      plainly_first = l.plain_first stretch (e.state g.effect)
-
-      plainly_wire : e.wire plainly ≡ []
-      unfolding plainly
-      plainly_wire = l.plain_wire stretch (e.state g.effect)
-
-      plainly_state : e.state plainly ≡ e.state g.effect
-      unfolding plainly
-      plainly_state = l.plain_state stretch (e.state g.effect)
-
-      first_both : e.first (e.followed g.effect plainly) ≡ e.first g.effect ++ stretch
-      first_both = l.first_both g.effect plainly ∙ ap (λ (xs : List ℕ). e.first g.effect ++ xs) plainly_first
-
-      wire_both : e.wire (e.followed g.effect plainly) ≡ e.wire g.effect
-      wire_both = l.wire_both g.effect plainly ∙ (rw (plainly_wire, append-nil))
-
-      plainly_fits : RoomFor (e.first (e.followed g.effect plainly)) first.before
-      plainly_fits = rw first_both (simp length-append (omega (arith, stretch_long, stretch_fits, g.step.on_first.count, first_in, first_long)))
-
-      plainly_step : Stepped l view Clean (e.followed g.effect plainly) s t Clear (with_rest first p last_first) wire (p + r) w
-      unfolding plainly
-      plainly_step = record {
-        note = g.step.note ∙ sym (l.note_both g.effect plainly ∙ ap (λ (x : Note). first_note x (e.note plainly)) (sym g.step.note) ∙ l.plain_note stretch (e.state g.effect) ∙ g.step.note);
-        on_first = rw first_both (wrote_then g.step.on_first g.first_fits stretch last_first r (rw stretch_is at m));
-        on_wire = rw wire_both g.step.on_wire;
-        sees = g.step.sees ∙ sym (l.state_both g.effect plainly ∙ plainly_state);
-        clean = g.step.clean;
-      }
-
-      pub stretch_counted : p + r ≤ length first.before
-      stretch_counted = counted plainly_step.on_first plainly_fits
-
-      pub turn_stretch : RunInvariant l view Clean s bytes (with_rest first p last_first) wire t (i + k) (p + r) w
-      unfolding plainly
-      turn_stretch =
-          let same : left_of wire w - 0 ≡ left_of wire w = omega arith in
-          onward k plainly stretch_inside plainly_step plainly_fits (rw wire_both g.wire_fits) refl
-          (rw (plainly_state, plainly_first, plainly_wire, same, stretch_long, ← whole)
-          (rw stretch_long at (ran_plain l (e.state g.effect) stretch (drop (i + k) bytes) (left_of first p) (left_of wire w) all_plain (omega (arith, stretch_long, stretch_fits)) (both_lent (left_of first p) (left_of wire w) room).1)))
+-- a note is compared with Clear
+pub same_clear : (n : Note) → sameb the_type n Clear ≡ is_clear n
+same_clear Clear = refl
+same_clear Unreadable = refl
+same_clear Inactive = refl
+same_clear OtherOption = refl
+same_clear Stray = refl

@@ -1,6 +1,6 @@
 -- A run of network bytes, at either end: the call with one byte over a list of them, each in the unused tails of the two lent
 -- buffers. It stops before a byte that would be refused, and after one that gave a note.
-use Rattle.std.specs.Prelude.{◌≡◌, Bool, false, not, ◌&&◌, cond, List, [], ◌∷◌, ℕ, ◌+◌, ◌-◌, ◌≤◌, ◌<◌, min, eqb, length, take, get_or}
+use Rattle.std.specs.Prelude.{◌≡◌, Bool, false, not, ◌&&◌, cond, List, [], ◌∷◌, ℕ, ◌+◌, ◌-◌, ◌≤◌, ◌<◌, eqb, length, take, get_or}
 use Rattle.codes.specs.Answers.{no_room, is_done, is_clear}
 use Rattle.codes.specs.declared.Code.{Code}
 use Rattle.codes.specs.declared.Code.TheVariants.{Done}
@@ -33,10 +33,6 @@ pub record RunCallEffect (D : Type 0) : Type 0 where
 -- a run of so many bytes is refused: it has a first byte, and that would be
 abbrev pub cannot_begin : (count first wire : ℕ) → Bool
 cannot_begin count first wire = not (eqb count 0) && no_room first wire
-
--- how far plain bytes may be taken together from a place on: each finds the room that code 1 asks for, as if it came alone
-abbrev pub reach_of : (at count left : ℕ) → ℕ
-reach_of at count left = at + min (count - at) (left - 1023)
 
 module _ {S D A : Type 0} (e : OneByte S D A) where
   abbrev pub stays : S → RunEffect D

@@ -1,5 +1,5 @@
 -- A byte that moves the reader from phase to phase, and leaves the body that it keeps alone.
-use Rattle.std.specs.Prelude.{◌≡◌, true, false, cond, ℕ, eqb}
+use Rattle.std.specs.Prelude.{◌≡◌, Option, Some, None, cond, ℕ, eqb}
 use Rattle.codes.specs.Telnet.{IAC, SB, plain_command, WILL, WONT, DO, DONT}
 use Rattle.codes.specs.declared.Verb.TheVariants.{Will, Wont, Do, Dont}
 use Rattle.reader.specs.declared.Phase.{Phase}
@@ -9,14 +9,14 @@ use Rattle.reader.specs.declared.Item.TheVariants.{Nothing, Data, Negotiated, St
 use Rattle.reader.specs.declared.PhaseRead.{PhaseRead}
 use Rattle.reader.specs.Reading.{ReaderState, read, gives, in_phase}
 
-abbrev pub moves : Item → Phase → PhaseRead
-moves i p = record { alone = true; item = i; phase = p }
+abbrev pub moves : Item → Phase → Option PhaseRead
+moves i p = Some (record { item = i; phase = p })
 
 -- a byte that begins a body, or belongs to one
-abbrev pub of_body : PhaseRead
-of_body = record { alone = false; item = Nothing; phase = InBody }
+abbrev pub of_body : Option PhaseRead
+of_body = None
 
-unfoldable pub command_phase : ℕ → PhaseRead
+unfoldable pub command_phase : ℕ → Option PhaseRead
 command_phase b =
     cond (eqb b IAC) (moves (Data IAC) Between)
     (cond (eqb b SB) of_body
@@ -26,7 +26,7 @@ command_phase b =
     (cond (eqb b DONT) (moves Nothing (AfterVerb Dont))
     (cond (plain_command b) (moves Nothing Between) (moves StrayCommand Between)))))))
 
-abbrev pub phase_read : Phase → ℕ → PhaseRead
+abbrev pub phase_read : Phase → ℕ → Option PhaseRead
 phase_read Between b = cond (eqb b IAC) (moves Nothing AfterIac) (moves (Data b) Between)
 phase_read AfterIac b = command_phase b
 phase_read (AfterVerb v) b = moves (Negotiated v b) Between
@@ -35,4 +35,4 @@ phase_read InBodyAfterIac b = of_body
 
 -- Assumed: nothing. Promised: where the phase alone moves, that is how the reader reads the byte.
 abbrev pub PhaseAlone : Type 0
-PhaseAlone = (r : ReaderState) (b : ℕ) → let m = phase_read r.phase b in m.alone ≡ true → read r b ≡ gives m.item (in_phase r m.phase)
+PhaseAlone = (r : ReaderState) (b : ℕ) (m : PhaseRead) → phase_read r.phase b ≡ Some m → read r b ≡ gives m.item (in_phase r m.phase)

@@ -2,17 +2,18 @@
 #![tactic(auto)]
 
 ghost use Rattle.std.specs.Prelude.{◌≡◌, min};
+ghost use Rattle.lists.specs.Fronts.{front};
+ghost use Rattle.codes.specs.Telnet.{not_iac};
 ghost use Rattle.reader.specs.Reading.{in_phase, gives, keeping, marring, command_read, body_command_read, read_in, read, is_between, is_data};
 ghost use Rattle.reader.specs.Refinement.{view_reader, idle_cells, RefinesRead};
 
 use codes::{IAC, SE, Verb};
 
-mod fronts;
 mod network_runs;
+mod numbers;
 mod phases;
 
-pub use fronts::text_front;
-pub use network_runs::{cannot_begin, reach};
+pub use network_runs::{ByteOutcome, Ran, ReadsNetwork, cannot_begin, read_bytes};
 pub use phases::phase_read;
 
 // The first bytes of a body that are kept, its option among them.
@@ -38,7 +39,7 @@ pub enum Item {
     StrayCommand,
 }
 
-// The body read last stands in the first len cells.
+// The body read last stands in the first len cells: a count beside an array, as a host lends both to the library for C.
 #[derive(Clone, Copy)]
 pub struct Reader {
     pub phase: Phase,
@@ -53,10 +54,9 @@ pub struct Read {
     pub reader: Reader,
 }
 
-// What a byte completes and the phase after it, where the phase alone moves.
+// What a byte completes and the phase after it, of a byte that moves the phase alone.
 #[derive(Clone, Copy)]
 pub struct PhaseRead {
-    pub alone: bool,
     pub item: Item,
     pub phase: Phase,
 }
@@ -75,28 +75,16 @@ pub fn idle() -> Reader
 pub fn is_between(phase: Phase) -> bool
     ensures { result ≡ is_between phase }
 {
-    match phase {
-        Phase::Between => true,
-        Phase::AfterIac => false,
-        Phase::AfterVerb(_) => false,
-        Phase::InBody => false,
-        Phase::InBodyAfterIac => false,
-    }
+    matches!(phase, Phase::Between)
 }
 
 // The item, and the same reader in another phase.
 fn stepped(r: Reader, phase: Phase, item: Item) -> Read
     ensures { RefinesRead (gives item (in_phase (view_reader r) phase)) r result }
 {
-    let body = r.body;
     Read {
         item,
-        reader: Reader {
-            phase,
-            marred: r.marred,
-            body,
-            len: r.len,
-        },
+        reader: Reader { phase, ..r },
     }
 }
 
@@ -104,34 +92,29 @@ fn stepped(r: Reader, phase: Phase, item: Item) -> Read
 fn kept(r: Reader, b: u8) -> Read
     ensures { RefinesRead (gives Item.Nothing (keeping (view_reader r) b)) r result }
 {
-    let len = r.len;
-    if len < BODY_ROOM {
-        let mut body = r.body;
-        body[len] = b;
-        return Read {
-            item: Item::Nothing,
-            reader: Reader {
-                phase: Phase::InBody,
-                marred: r.marred,
-                body,
-                len: len + 1,
-            },
-        };
+    let mut reader = Reader {
+        phase: Phase::InBody,
+        ..r
+    };
+    if r.len < BODY_ROOM {
+        reader.body[r.len] = b;
+        reader.len += 1;
     }
-    stepped(r, Phase::InBody, Item::Nothing)
+    Read {
+        item: Item::Nothing,
+        reader,
+    }
 }
 
 fn marred(r: Reader) -> Read
     ensures { RefinesRead (gives Item.Nothing (marring (view_reader r))) r result }
 {
-    let body = r.body;
     Read {
         item: Item::Nothing,
         reader: Reader {
             phase: Phase::InBody,
             marred: true,
-            body,
-            len: r.len,
+            ..r
         },
     }
 }
@@ -140,10 +123,14 @@ fn marred(r: Reader) -> Read
 pub fn is_data(phase: Phase, b: u8) -> bool
     ensures { result ≡ is_data phase b }
 {
-    if b == IAC {
-        return false;
-    }
-    is_between(phase)
+    b != IAC && is_between(phase)
+}
+
+// The text that comes before a command: bytes up to the first IAC.
+pub fn text_front(bytes: &[u8]) -> usize
+    ensures { result ≡ front not_iac bytes.now }
+{
+    lists::front(bytes, |b| b != IAC)
 }
 
 fn text_byte(r: Reader, b: u8) -> Read
@@ -162,13 +149,10 @@ fn text_byte(r: Reader, b: u8) -> Read
 fn command_byte(r: Reader, b: u8) -> Read
     ensures { RefinesRead (command_read (view_reader r) b) r result }
 {
-    let moved = phases::command_phase(b);
-    if !moved.alone {
-        return stepped(idle(), Phase::InBody, Item::Nothing);
+    match phases::command_phase(b) {
+        Some(moved) => stepped(r, moved.phase, moved.item),
+        None => stepped(idle(), Phase::InBody, Item::Nothing),
     }
-    let phase = moved.phase;
-    let item = moved.item;
-    stepped(r, phase, item)
 }
 
 fn body_byte(r: Reader, b: u8) -> Read
@@ -181,6 +165,7 @@ fn body_byte(r: Reader, b: u8) -> Read
 }
 
 // The byte after IAC in a body.
+#[tactic(auto, unfolding(crate::specs::Reading::body_command_read))]
 fn body_command_byte(r: Reader, b: u8) -> Read
     ensures { RefinesRead (body_command_read (view_reader r) b) r result }
 {
@@ -191,11 +176,11 @@ fn body_command_byte(r: Reader, b: u8) -> Read
     }
 }
 
+#[tactic(auto, unfolding(crate::specs::Reading::read))]
 pub fn read_byte(r: Reader, b: u8) -> Read
     ensures { RefinesRead (read (view_reader r) b) r result }
 {
-    let phase = r.phase;
-    match phase {
+    match r.phase {
         Phase::Between => text_byte(r, b),
         Phase::AfterIac => command_byte(r, b),
         Phase::AfterVerb(v) => stepped(r, Phase::Between, Item::Negotiated(v, b)),
@@ -208,5 +193,5 @@ pub fn read_byte(r: Reader, b: u8) -> Read
 pub fn body_len(n: usize) -> usize
     ensures { result ≡ min n 260 }
 {
-    if n < BODY_ROOM { n } else { BODY_ROOM }
+    n.min(BODY_ROOM)
 }

@@ -1,5 +1,5 @@
 -- A DEFINE that is judged by its size alone: the sizes, and the table that it leaves.
-use mathlib.Core.Path.{◌≡◌, refl, sym}
+use mathlib.Core.Path.{◌≡◌, sym, ◌∙◌}
 use mathlib.Core.List.{List, ◌++◌}
 use Prim.Native.Nat.{ℕ, suc, ◌+◌, ◌-◌, ◌≤◌, ◌<◌}
 use native.Mathlib.Omega.{arith}
@@ -10,13 +10,13 @@ use Rattle.lists.proofs.Sums.{sum_around, sum-set}
 use Rattle.lists.proofs.Zeros.{clean_append}
 use Rattle.lists.proofs.Lengths.{every_set}
 use Rattle.received_macros.specs.declared.Reason.TheVariants.{TooLong}
-use Rattle.received_macros.specs.declared.Verdict.TheVariants.{Accepted, Refused}
+use Rattle.std.proofs.Common.{Ok, Err}
 use Rattle.received_macros.specs.declared.Texts.{Texts}
 use Rattle.received_macros.specs.Texts.{plain, entry_length, entry_of, entry_for, total, text_room, defined, judged_total}
-use Rattle.received_macros.specs.Refinement.{length_of, lengths, entries, view_texts, CleanTexts, Settled, mark_for, cells_with, RefinesDefined}
+use Rattle.received_macros.specs.Refinement.{length_of, lengths, entries, view_texts, CleanTexts, Settled, Changed, mark_for, cells_with, RefinesDefined}
 use Rattle.received_macros.proofs.Laws.{entries_length, entry_at_lem, entry_length_lem, entries_total, entries_changed, entries_set}
 use Rattle.received_macros.proofs.Marks.{marked}
-use Rattle.received_macros.proofs.View.{view_within}
+use Rattle.received_macros.proofs.View.{view_within, lengths_all}
 
 module _ (t r : Texts) (x : ℕ) (s : List ℕ) (settled : Settled t r) (cells_long : length r.cells ≡ text_room)
     (byte : x < length r.marks) (short : length s ≤ 255) where
@@ -47,11 +47,8 @@ module _ (t r : Texts) (x : ℕ) (s : List ℕ) (settled : Settled t r) (cells_l
       let here : entry_length (entry_of es x) ≡ old = rw entry_at_lem (entry_length_lem (get_or r.marks x 0) (drop start r.cells) room) in
       rw settled.table (omega (arith, change, before, here, (marked x s short).long, fits))
 
-  pub too_long : text_room < lengths r.marks - old + length_of mark
-      → RefinesDefined (judged_total (view_texts t) x s) t x s (record { verdict = Refused TooLong; table = t })
-  too_long over =
-      rw (lt-ltb text_room (total (defined (view_texts t) x s)) (omega (arith, new_total)))
-      (record { verdict = refl; table = refl; clean = λ c. c; kept = refl })
+  pub too_long : text_room < lengths r.marks - old + length_of mark → judged_total (view_texts t) x s ≡ Err TooLong
+  too_long over = rw (lt-ltb text_room (total (defined (view_texts t) x s)) (omega (arith, new_total)))
 
   abbrev changed : Texts
   changed = record { marks = set r.marks x mark; cells = cells_with r.cells start (start + old) (lengths r.marks) part }
@@ -94,11 +91,12 @@ module _ (t r : Texts) (x : ℕ) (s : List ℕ) (settled : Settled t r) (cells_l
       }
 
   pub accepted : lengths r.marks - old + length_of mark ≤ text_room
-      → RefinesDefined (judged_total (view_texts t) x s) t x s (record { verdict = Accepted; table = changed })
+      → (judged_total (view_texts t) x s ≡ Ok tt) × Changed (defined (view_texts t) x s) t changed
   accepted room =
-      let within : lengths changed.marks ≤ text_room = omega (arith, changed_lengths) in
-      rw (le-ltb text_room (total (defined (view_texts t) x s)) (omega (arith, new_total)))
-      (record { verdict = refl; table = changed_view within; clean = changed_clean within; kept = within })
+      let within : lengths changed.marks ≤ text_room = omega (arith, changed_lengths) in (
+        rw (le-ltb text_room (total (defined (view_texts t) x s)) (omega (arith, new_total))),
+        record { room = within; view = changed_view within; clean = changed_clean within },
+      )
 
 -- the numbers as the code has them
 pub record Sizes (t r : Texts) (x : ℕ) (s : List ℕ) (old mark len last start : ℕ) : Type 0 where
@@ -112,13 +110,28 @@ pub record Sizes (t r : Texts) (x : ℕ) (s : List ℕ) (old mark len last start
   pub last_is : last ≡ lengths r.marks
   pub start_is : start ≡ lengths (take x r.marks)
 
+pub sizes : {t r : Texts} {x : ℕ} {s : List ℕ} {old mark len last start : ℕ} → Settled t r → length r.marks ≡ 256 → length r.cells ≡ text_room → x < 256 → length s ≤ 255
+    → old ≡ length_of (get_or r.marks x 0) → mark ≡ mark_for x s → len ≡ length_of mark → last ≡ lengths (take 256 r.marks) → start ≡ lengths (take x r.marks)
+    → Sizes t r x s old mark len last start
+sizes {r = r} settled l k byte short old_is mark_is len_is last_is start_is = record {
+  settled = settled;
+  cells_long = k;
+  byte = omega arith;
+  short = short;
+  old_is = old_is;
+  mark_is = mark_is;
+  len_is = len_is;
+  last_is = last_is ∙ lengths_all r.marks l;
+  start_is = start_is;
+}
+
 -- the bounds of the copies
 pub record Bounded (s : List ℕ) (old len last start : ℕ) : Type 0 where
   pub inside : start + old ≤ last
   pub room : last ≤ text_room
   pub part : len ≤ length s
 
-module _ (t r : Texts) (x : ℕ) (s : List ℕ) (old mark len last start : ℕ) (z : Sizes t r x s old mark len last start) where
+module _ {t r : Texts} {x : ℕ} {s : List ℕ} {old mark len last start : ℕ} (z : Sizes t r x s old mark len last start) where
   pub bounded : Bounded s old len last start
   bounded =
       let m : mark ≡ mark_for x s = z.mark_is in
@@ -129,11 +142,11 @@ module _ (t r : Texts) (x : ℕ) (s : List ℕ) (old mark len last start : ℕ) 
         part = omega (arith, z.len_is);
       }
 
-  pub refused_text : text_room < last - old + len → RefinesDefined (judged_total (view_texts t) x s) t x s (record { verdict = Refused TooLong; table = t })
+  pub refused_text : text_room < last - old + len → judged_total (view_texts t) x s ≡ Err TooLong
   refused_text over = too_long t r x s z.settled z.cells_long z.byte z.short (rw (z.len_is, z.mark_is, z.old_is, z.last_is) at over)
 
   pub accepted_text : (cells : List ℕ) → cells ≡ cells_with r.cells start (start + old) last (take len s) → last - old + len ≤ text_room
-      → RefinesDefined (judged_total (view_texts t) x s) t x s (record { verdict = Accepted; table = record { marks = set r.marks x mark; cells = cells } })
+      → RefinesDefined (judged_total (view_texts t) x s) t x s (Ok (record { marks = set r.marks x mark; cells = cells }))
   accepted_text cells e room =
       rw (e, z.len_is, z.mark_is, z.old_is, z.last_is, z.start_is)
       (accepted t r x s z.settled z.cells_long z.byte z.short (rw (z.len_is, z.mark_is, z.old_is, z.last_is) at room))

@@ -3,6 +3,5 @@ pub mod Marks
 pub mod View
 pub mod Copying
 pub mod Defining
-pub mod Judging
 pub mod Determined
 pub mod Totals

@@ -1,31 +1,31 @@
 -- The mark that a text gives to its byte.
 use mathlib.Core.Path.{◌≡◌, refl}
-use mathlib.Core.Bool.{Bool, true, false, cond}
+use mathlib.Core.Bool.{Bool, true, false, ◌&&◌, cond}
+use lib.Pointwise.{pointwise}
 use mathlib.Core.List.{List, [], ◌∷◌}
 use Prim.Native.Nat.{ℕ, ◌+◌, ◌≤◌}
 use native.Mathlib.Omega.{arith}
-use borrow.Author.Tests.{eq-eqb, ne_eqb, eqb-true}
+use borrow.Author.Tests.{ne_eqb, eqb-true}
 use lib.Dec.{eqb}
-use lib.ListN.{length, get_or, take}
+use lib.ListN.{length, take}
 use lib.Seq.{take-length}
 use Rattle.received_macros.specs.Texts.{Entry, plain, text, entry_length, is_itself, entry_for}
 use Rattle.received_macros.specs.Refinement.{length_of, entry_at, text_of, mark_for}
 
-pub mark_long : (x : ℕ) (s : List ℕ) → (length s ≡ 1 → ⊥) → mark_for x s ≡ length s + 1
+-- the mark, by whether the text is X alone
+pub mark_by : (x : ℕ) (s : List ℕ) → cond (pointwise eqb s (x ∷ [])) 0 (length s + 1) ≡ mark_for x s
 unfolding mark_for
-mark_long x s h = rw (ne_eqb (length s) 1 h)
-
-pub mark_itself : (x : ℕ) (s : List ℕ) → length s ≡ 1 → get_or s 0 0 ≡ x → mark_for x s ≡ 0
-unfolding mark_for
-mark_itself x [] h e = absurd (omega arith)
-mark_itself x (y ∷ []) h e = rw (eq-eqb y x e)
-mark_itself x (y ∷ z ∷ s) h e = absurd (omega arith)
-
-pub mark_other : (x : ℕ) (s : List ℕ) → length s ≡ 1 → (get_or s 0 0 ≡ x → ⊥) → mark_for x s ≡ 2
-unfolding mark_for
-mark_other x [] h e = absurd (omega arith)
-mark_other x (y ∷ []) h e = rw (ne_eqb y x e)
-mark_other x (y ∷ z ∷ s) h e = absurd (omega arith)
+mark_by x [] = refl
+mark_by x (y ∷ []) = go (eqb y x)
+  where
+    go : (b : Bool) → ◌≡◌ {A = ℕ} (cond (b && true) 0 2) (cond b 0 2)
+    go true = refl
+    go false = refl
+mark_by x (y ∷ z ∷ s) = rw (ne_eqb (length (y ∷ z ∷ s)) 1 (λ e. omega arith)) (go (eqb y x))
+  where
+    go : (b : Bool) → cond (b && false) 0 (length (y ∷ z ∷ s) + 1) ≡ length (y ∷ z ∷ s) + 1
+    go true = refl
+    go false = refl
 
 -- a mark other than 0 has the text's length, and the text
 full : (s : List ℕ) → length s ≤ 255 → entry_at (length s + 1) (take (length_of (length s + 1)) s) ≡ text s

@@ -10,9 +10,10 @@ use lib.ListN.{length, take, drop, replicate, length-replicate}
 use lib.Seq.{take-add}
 use Rattle.lists.specs.Lists.{sum}
 use Rattle.lists.proofs.Sums.{sum-set, sum_zeros}
-use Rattle.received_macros.specs.declared.Verdict.TheVariants.{Accepted}
+use Rattle.std.proofs.Common.{Ok, Err, Result}
+use Rattle.std.specs.Result.{result_unwrap_or}
+use Rattle.received_macros.specs.declared.Reason.{Reason}
 use Rattle.received_macros.specs.declared.Texts.{Texts}
-use Rattle.received_macros.specs.declared.Defined.{Defined}
 use Rattle.received_macros.specs.Texts.{plain, entry_length, total, text_room, defined, freed, judged_total}
 use Rattle.received_macros.specs.Refinement.{length_of, lengths, entries, view_texts, text_of, Changed, RefinesDefined}
 use Rattle.received_macros.proofs.Laws.{entries_length, entries_total}
@@ -75,10 +76,9 @@ module _ (t : Texts) (x : ℕ) (long : length t.cells ≡ text_room) (byte : x <
   unfolding total freed
   freed_total = omega (arith, sum-set entry_length (view_texts t) x plain plain byte, total_room t long)
 
-  freed_judged : judged_total (view_texts t) x (x ∷ []) ≡ Accepted
+  freed_judged : judged_total (view_texts t) x (x ∷ []) ≡ Ok tt
   freed_judged = rw (freed_is, le-ltb text_room (total (freed (view_texts t) x)) freed_total)
 
-  pub freed_met : (r : Defined) → RefinesDefined (judged_total (view_texts t) x (x ∷ [])) t x (x ∷ []) r → Changed (freed (view_texts t) x) t r.table
-  freed_met r m =
-      let met : RefinesDefined Accepted t x (x ∷ []) r = rw freed_judged at m in
-      record { room = met.kept; view = met.table ∙ freed_is; clean = met.clean }
+  pub freed_met : (r : Result Texts Reason) → RefinesDefined (judged_total (view_texts t) x (x ∷ [])) t x (x ∷ []) r → Changed (freed (view_texts t) x) t (result_unwrap_or r t)
+  freed_met (Ok r) m = rw freed_is at m.1
+  freed_met (Err reason) m = let z : ◌≡◌ {A = ℕ} 0 1 = cc freed_judged in absurd (omega arith)

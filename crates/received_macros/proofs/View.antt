@@ -1,22 +1,21 @@
 -- The table that a struct stands for.
 use mathlib.Core.Path.{◌≡◌, refl, sym, ap, ◌∙◌}
-use mathlib.Core.Bool.{Bool, true, false, not, false≢true}
-use mathlib.Core.List.{List, [], ◌++◌}
+use mathlib.Core.Bool.{Bool, true, false, not}
+use mathlib.Core.List.{List, []}
 use Prim.Native.Nat.{ℕ, ◌+◌, ◌-◌, ◌≤◌, ◌<◌}
 use native.Mathlib.Omega.{arith}
 use borrow.Author.Tests.{lt-ltb, le-ltb, le-leb, lt-leb, ltb-true, ltb-false, eq-eqb, ne_eqb, eqb-false}
 use lib.Dec.{ltb, leb, eqb}
-use lib.ListN.{length, get_or, take, drop, replicate, length-take, length-drop}
-use lib.Seq.{take_all, take_at}
+use lib.ListN.{length, get_or, take, drop, replicate}
+use lib.Seq.{take_all}
 use Rattle.lists.proofs.Sums.{sum_zeros, sum_around}
 use Rattle.lists.proofs.Zeros.{clean_append}
 use Rattle.lists.proofs.Lengths.{every_replicate}
 use Rattle.lists.proofs.Uniform.{get_d_uniform}
 use Rattle.received_macros.specs.declared.Texts.{Texts}
 use Rattle.received_macros.specs.Texts.{Entry, plain, text, no_macros, entry_of, text_room}
-use Rattle.received_macros.specs.Refinement.{length_of, lengths, entry_at, entries, view_texts, empty_cells, CleanTexts, Settled, UnmarkedPlain, is_unmarked, is_text, text_of, CopyOf, no_span, SpanOf}
+use Rattle.received_macros.specs.Refinement.{length_of, lengths, entry_at, entries, view_texts, empty_cells, CleanTexts, Settled, UnmarkedPlain, is_unmarked, view_parts, is_text}
 use Rattle.received_macros.proofs.Laws.{entries_none, entry_at_lem}
-use Rattle.received_macros.proofs.Marks.{text_at}
 
 pub view_within : (t : Texts) → lengths t.marks ≤ text_room → view_texts t ≡ entries t.marks t.cells
 unfolding view_texts
@@ -80,58 +79,23 @@ module _ (t : Texts) (x : ℕ) where
 pub unmarked_plain : UnmarkedPlain
 unmarked_plain t x e = unmarked t x e
 
--- an entry from what the code asks of it
-pub text_entry : (e : Entry) → is_text e ≡ true → e ≡ text (text_of e)
-text_entry plain h = absurd (false≢true h)
-text_entry (text s) h = refl
-
-pub plain_entry : (e : Entry) → is_text e ≡ false → e ≡ plain
-plain_entry plain h = refl
-plain_entry (text s) h = absurd (false≢true (sym h))
-
--- the text of a byte, in a settled table
-module _ (t r : Texts) (x : ℕ) (settled : Settled t r) (cells_long : length r.cells ≡ text_room) (byte : x < length r.marks) where
-  pub text_within : lengths (take x r.marks) + length_of (get_or r.marks x 0) ≤ text_room
-  text_within = omega (arith, settled.room, sum_around length_of r.marks x 0 byte)
-
-  pub text_copied : (start len : ℕ) (bytes : List ℕ) → start ≡ lengths (take x r.marks) → len ≡ length_of (get_or r.marks x 0)
-      → let part = take (start + len - start) (drop start r.cells) in bytes ≡ part ++ replicate (255 - length part) 0
-      → CopyOf (entry_of (view_texts t) x) (record { len = len; bytes = bytes })
-  text_copied start len bytes start_is len_is e =
-      let cut : start + len - start ≡ len = omega arith in
-      let part = take len (drop start r.cells) in
-      let long : length part ≡ len = simp (length-take, length-drop) (omega (arith, text_within)) in
-      let filled : bytes ≡ part ++ replicate (255 - length part) 0 = rw cut at e in
-      let same : text_of (entry_of (view_texts t) x) ≡ part =
-      rw (settled.table, entry_at_lem r.marks r.cells x, ← start_is, text_at, ← len_is) in
-      record {
-        count = rw (same, long);
-        bytes = rw (same, filled) (take_at part (replicate (255 - length part) 0) len long);
-        clean = rw filled (clean_append part len (255 - length part) long);
-      }
-
 -- where the text of a byte lies, by its mark and the texts before it
-module _ (marks : List ℕ) (x : ℕ) where
-  abbrev table_of : List ℕ → Texts
-  table_of cells = record { marks = marks; cells = cells }
+module _ (marks cells : List ℕ) (x : ℕ) where
+  abbrev entry_in : Entry
+  entry_in = entry_of (view_parts marks cells) x
 
-  span_none : ((cells : List ℕ) → entry_of (view_texts (table_of cells)) x ≡ plain) → SpanOf marks x no_span
-  span_none none = record { order = omega arith; room = omega arith; entry = none; none = λ _. refl }
+  pub none_unmarked : get_or marks x 0 ≡ 0 → entry_in ≡ plain
+  none_unmarked e = unmarked (record { marks = marks; cells = cells }) x (eq-eqb (get_or marks x 0) 0 e)
 
-  pub span_unmarked : get_or marks x 0 ≡ 0 → SpanOf marks x no_span
-  span_unmarked e = span_none (λ cells. unmarked (table_of cells) x (eq-eqb (get_or marks x 0) 0 e))
+  pub none_over : length marks ≡ 256 → text_room < lengths (take 256 marks) → entry_in ≡ plain
+  none_over l over = no_entry (record { marks = marks; cells = cells }) x (rw (lengths_all marks l) at over)
 
-  pub span_over : text_room < lengths marks → SpanOf marks x no_span
-  span_over h = span_none (λ cells. no_entry (table_of cells) x h)
+  module _ (ne : get_or marks x 0 ≡ 0 → ⊥) (l : length marks ≡ 256) (within : lengths (take 256 marks) ≤ text_room) (byte : x < 256) where
+    pub text_within : lengths (take x marks) + length_of (get_or marks x 0) ≤ text_room
+    text_within = omega (arith, lengths_all marks l, sum_around length_of marks x 0 (omega arith))
 
-  pub span_within : (get_or marks x 0 ≡ 0 → ⊥) → lengths marks ≤ text_room → x < length marks
-      → (start len : ℕ) → start ≡ lengths (take x marks) → len ≡ length_of (get_or marks x 0)
-      → SpanOf marks x (record { defined = true; start = start; end = start + len })
-  span_within e h byte start len start_is len_is =
-      let cut : start + len - start ≡ len = omega arith in
-      record {
-        order = omega arith;
-        room = omega (arith, sum_around length_of marks x 0 byte);
-        entry = λ cells. rw (the_entry (table_of cells) x h, ne_eqb (get_or marks x 0) 0 e, cut, start_is, len_is);
-        none = λ f. absurd (false≢true (sym f));
-      }
+    pub some_text : (start len : ℕ) → start ≡ lengths (take x marks) → len ≡ length_of (get_or marks x 0)
+        → entry_in ≡ text (take (start + len - start) (drop start cells))
+    some_text start len start_is len_is =
+        let cut : start + len - start ≡ len = omega arith in
+        rw (cut, start_is, len_is, the_entry (record { marks = marks; cells = cells }) x (rw (lengths_all marks l) at within), ne_eqb (get_or marks x 0) 0 ne)

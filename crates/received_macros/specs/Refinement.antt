@@ -1,15 +1,11 @@
 -- The receiving table as the code keeps it: a mark for each byte, and the texts without gaps, that of a lower byte first.
-use Rattle.std.specs.Prelude.{◌≡◌, Bool, true, false, ◌&&◌, cond, List, [], ◌∷◌, ◌++◌, map, ℕ, ◌+◌, ◌-◌, ◌≤◌, min, length, get_or, take, drop, replicate, ltb, eqb}
+use Rattle.std.specs.Prelude.{◌≡◌, Result, Ok, Err, Bool, true, false, ◌&&◌, cond, List, [], ◌∷◌, ◌++◌, map, ℕ, ◌+◌, ◌-◌, ◌≤◌, min, length, get_or, take, drop, replicate, ltb, eqb}
 use Rattle.lists.specs.Lists.{sum}
 use Rattle.lists.specs.Buffers.{Clean}
 use Rattle.codes.specs.Telnet.{not_iac}
-use Rattle.received_macros.specs.declared.Verdict.{Verdict}
-use Rattle.received_macros.specs.declared.Verdict.TheVariants.{Accepted, Refused}
 use Rattle.received_macros.specs.declared.Texts.{Texts}
-use Rattle.received_macros.specs.declared.Text.{Text}
-use Rattle.received_macros.specs.declared.Span.{Span}
-use Rattle.received_macros.specs.declared.Defined.{Defined}
-use Rattle.received_macros.specs.Texts.{Entry, plain, text, Table, no_macros, entry_of, text_room, is_itself, after_define}
+use Rattle.received_macros.specs.declared.Reason.{Reason}
+use Rattle.received_macros.specs.Texts.{Entry, plain, text, Table, no_macros, entry_of, text_room, is_itself, defined, Verdict}
 
 -- the length of the text that a mark stands for: one less, at most 255; 0 marks a byte that is not defined
 abbrev pub length_of : ℕ → ℕ
@@ -29,6 +25,10 @@ entries (mark ∷ marks) cells = entry_at mark cells ∷ entries marks (drop (le
 -- the table that a struct stands for; texts that pass the room are no macros
 unfoldable pub view_texts : Texts → Table
 view_texts t = cond (ltb text_room (lengths t.marks)) no_macros (entries t.marks t.cells)
+
+-- .. by its parts
+abbrev pub view_parts : (marks cells : List ℕ) → Table
+view_parts marks cells = view_texts (record { marks = marks; cells = cells })
 
 -- the table without macros, as the code makes it
 abbrev pub empty_cells : Texts
@@ -74,27 +74,6 @@ abbrev pub text_of : Entry → List ℕ
 text_of plain = []
 text_of (text s) = s
 
--- a copy of the text
-pub record CopyOf (e : Entry) (r : Text) : Type 0 where
-  pub count : r.len ≡ length (text_of e)
-  pub bytes : take r.len r.bytes ≡ text_of e
-  pub clean : Clean r.bytes r.len
-
--- no part of the cells
-abbrev pub no_span : Span
-no_span = record { defined = false; start = 0; end = 0 }
-
--- the entry whose text is a part of the cells
-abbrev pub entry_in : Span → List ℕ → Entry
-entry_in r cells = cond r.defined (text (take (r.end - r.start) (drop r.start cells))) plain
-
--- where the text of a byte with these marks lies, whatever the cells have there
-pub record SpanOf (marks : List ℕ) (x : ℕ) (r : Span) : Type 0 where
-  pub order : r.start ≤ r.end
-  pub room : r.end ≤ text_room
-  pub entry : (cells : List ℕ) → entry_of (view_texts (record { marks = marks; cells = cells })) x ≡ entry_in r cells
-  pub none : r.defined ≡ false → r ≡ no_span
-
 -- the mark that a text gives to X
 unfoldable pub mark_for : ℕ → List ℕ → ℕ
 mark_for x s = cond (is_itself x s) 0 (length s + 1)
@@ -105,20 +84,13 @@ cells_with cells start end last s =
     take start cells ++ s ++ take (last - end) (drop end cells)
     ++ replicate (text_room - (start + length s + (last - end))) 0
 
--- after a DEFINE that was accepted the texts are within the cells; a refusal leaves the very table
-abbrev pub TableAfter : Verdict → Texts → Texts → Type 0
-TableAfter Accepted t r = lengths r.marks ≤ text_room
-TableAfter (Refused reason) t r = r ≡ t
-
 -- another table in the place of one, its texts within the cells
 pub record Changed (table : Table) (t r : Texts) : Type 0 where
   pub room : lengths r.marks ≤ text_room
   pub view : view_texts r ≡ table
   pub clean : CleanTexts t → CleanTexts r
 
--- what a DEFINE of X as s answers where it is judged so
-pub record RefinesDefined (v : Verdict) (t : Texts) (x : ℕ) (s : List ℕ) (r : Defined) : Type 0 where
-  pub verdict : r.verdict ≡ v
-  pub table : view_texts r.table ≡ after_define v (view_texts t) x s
-  pub clean : CleanTexts t → CleanTexts r.table
-  pub kept : TableAfter v t r.table
+-- what a DEFINE of X as s answers where it is judged so: the table after it, or the reason of its refusal, and then the old table stands
+abbrev pub RefinesDefined : Verdict → Texts → ℕ → List ℕ → Result Texts Reason → Type 0
+RefinesDefined v t x s (Ok r) = (v ≡ Ok tt) × Changed (defined (view_texts t) x s) t r
+RefinesDefined v t x s (Err reason) = v ≡ Err reason

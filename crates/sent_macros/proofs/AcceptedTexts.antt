@@ -1,14 +1,15 @@
 -- The text of an accepted byte.
 use mathlib.Core.Path.{◌≡◌, refl, sym}
 use mathlib.Core.Bool.{true, false, false≢true}
-use mathlib.Core.List.{List, []}
+use mathlib.Core.List.{List, [], ◌∷◌}
 use Prim.Native.Nat.{ℕ}
-use lib.ListN.{replicate}
+use lib.Dec.{eqb}
+use lib.Pointwise.{pointwise}
 use Rattle.lists.specs.Choice.{is_same}
-use Rattle.lists.proofs.Zeros.{clean_append}
-use Rattle.received_macros.specs.declared.Text.{Text}
-use Rattle.received_macros.specs.Texts.{text, entry_of, longest_text}
-use Rattle.received_macros.specs.Refinement.{view_texts, text_of, CopyOf}
+use Rattle.std.proofs.Common.{Option, Some, None, MatchOption, Bor}
+use Rattle.std.specs.Option.{unwrap_or}
+use Rattle.received_macros.specs.Texts.{Entry, plain, text, entry_of}
+use Rattle.received_macros.specs.Refinement.{view_texts, text_of}
 use Rattle.sent_macros.specs.declared.Status.{Status}
 use Rattle.sent_macros.specs.declared.Status.TheVariants.{Free, Pending, PendingFree, Accepted, Refused}
 use Rattle.sent_macros.specs.declared.SendingTable.{SendingTable}
@@ -44,13 +45,26 @@ accepted_as pending_free s e = absurd (false≢true e)
 accepted_as (accepted s') s e = refl
 accepted_as refused s e = absurd (false≢true e)
 
--- a copy of it
-pub no_copy : (u : Sent) → is_accepted u ≡ false → CopyOf (text (accepted_text u)) (record { len = 0; bytes = replicate longest_text 0 })
-no_copy u e = rw (no_text u e) (record { count = refl; bytes = refl; clean = clean_append [] 0 longest_text refl })
+-- the code's test whether two texts are equal
+pub texts_same : (s u : List ℕ) → pointwise eqb s u ≡ is_same s u
+unfolding is_same
+texts_same [] [] = refl
+texts_same [] (n ∷ u) = refl
+texts_same (m ∷ s) [] = refl
+texts_same (m ∷ s) (n ∷ u) = rw (texts_same s u)
 
-pub text_copy : (t : SendingTable) (x : ℕ) (r : Text) → is_accepted (sent_of (view_table t) x) ≡ true → CopyOf (entry_of (view_texts (kept_texts t)) x) r
-    → CopyOf (text (accepted_text (sent_of (view_table t) x))) r
-text_copy t x r e copy =
+-- none of a byte that is not accepted
+pub no_bytes : (u : Sent) → is_accepted u ≡ false → [] ≡ accepted_text u
+no_bytes u e = sym (no_text u e)
+
+-- a text that was found, or no bytes
+found : (e : Entry) (r : Option (Bor (List ℕ))) (none : Bor (List ℕ)) → none.now ≡ [] → MatchOption r (e ≡ plain) (λ s. e ≡ text s.now) → (unwrap_or r none).now ≡ text_of e
+found e None none h m = rw m h
+found e (Some s) none h m = rw m
+
+pub found_text : (t : SendingTable) (x : ℕ) (r : Option (Bor (List ℕ))) (none : Bor (List ℕ)) → is_accepted (sent_of (view_table t) x) ≡ true → none.now ≡ []
+    → (let e = entry_of (view_texts (kept_texts t)) x in MatchOption r (e ≡ plain) (λ s. e ≡ text s.now)) → (unwrap_or r none).now ≡ accepted_text (sent_of (view_table t) x)
+found_text t x r none e h m =
     let u = text_of (entry_of (view_texts (kept_texts t)) x) in
     let same : accepted_text (sent_of (view_table t) x) ≡ u = rw (sent_at t x) (the_text (status_from _) u (rw (sent_at t x) at e)) in
-    rw same (record { count = copy.count; bytes = copy.bytes; clean = copy.clean })
+    rw same (found (entry_of (view_texts (kept_texts t)) x) r none h m)

@@ -6,7 +6,7 @@ use native.Mathlib.Numerals.{add-four}
 use native.Mathlib.Omega.{arith}
 use lib.ListN.{length, take, replicate}
 use Rattle.lists.specs.Buffers.{Lent, WroteAtStart}
-use Rattle.lists.proofs.ReadOff.{read_off, within_after}
+use Rattle.lists.proofs.ReadOff.{read_off}
 use Rattle.codes.specs.Telnet.{BM, DEFINE}
 use Rattle.sent_macros.specs.Sending.{stored, stored_room, all_data_bytes}
 use Rattle.sent_macros.specs.Refinement.{bare_table}
@@ -24,10 +24,8 @@ module _ (s : List ℕ) where
     stored_count = wrote.count
 
     -- the count stands before the text, and the array is no shorter than that
-    pub body_is : (x : ℕ) → take (n + 4) (BM ∷ DEFINE ∷ x ∷ n ∷ (out.after ++ [])) ≡ BM ∷ DEFINE ∷ x ∷ length (stored s) ∷ stored s
+    pub body_is : (x : ℕ) → take (4 + n) ((BM ∷ DEFINE ∷ x ∷ n ∷ []) ++ (out.after ++ [])) ≡ BM ∷ DEFINE ∷ x ∷ length (stored s) ∷ stored s
     body_is x =
         let text : take n out.after ≡ stored s = read_off wrote in
-        rw (append-nil out.after, add-four n, text, stored_count)
-
-    pub body_within : n + 4 ≤ length (BM ∷ DEFINE ∷ 0 ∷ n ∷ (out.after ++ []))
-    body_within = rw (append-nil out.after) (omega (arith, within_after wrote))
+        let four : 4 + n ≡ n + 4 = omega arith in
+        rw (append-nil out.after, four, add-four n, text, stored_count)

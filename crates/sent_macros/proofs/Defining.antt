@@ -1,30 +1,27 @@
 -- A DEFINE: whether it is too long, and the table that it leaves.
 use mathlib.Core.Path.{◌≡◌, refl, sym, ap, ◌∙◌}
-use mathlib.Core.Bool.{Bool, true, false, not, false≢true, cond}
+use mathlib.Core.Bool.{Bool, true, false, not, cond}
 use mathlib.Core.List.{List}
 use Prim.Native.Nat.{ℕ, ◌≤◌, ◌<◌}
 use native.Mathlib.Omega.{arith}
-use borrow.Author.Tests.{lt-ltb, le-ltb, ltb-true, ltb-false, lt-leb, le-leb, not-true, not-false}
-use lib.Dec.{ltb, leb}
+use borrow.Author.Tests.{lt-ltb, le-ltb, ltb-true, ltb-false}
+use lib.Dec.{ltb}
 use lib.ListN.{length, set, length-set}
 use lib.Seq.{get_or-set_same}
 use Rattle.lists.specs.Lists.{paired}
-use Rattle.lists.specs.Buffers.{Lent, untouched, WroteAtStart}
-use Rattle.lists.proofs.Starts.{wrote_none}
+use Rattle.lists.specs.Buffers.{Lent, WroteAtStart}
 use Rattle.received_macros.specs.declared.Texts.{Texts}
-use Rattle.received_macros.specs.declared.Defined as macros-defined
-use Rattle.received_macros.specs.declared.Verdict.TheVariants as verdict
+use Rattle.std.proofs.Common.{Ok, Err}
 use Rattle.received_macros.specs.declared.Reason.{Reason}
 use Rattle.received_macros.specs.declared.Reason.TheVariants.{TooLong}
 use Rattle.received_macros.specs.Texts.{plain, text, Table, total, text_room, longest_text, is_itself, entry_for, defined, judged_total, judged_any}
-use Rattle.received_macros.specs.Refinement.{view_texts, is_text, is_unmarked, text_of, Changed, RefinesDefined}
+use Rattle.received_macros.specs.Refinement.{view_texts, is_text, is_unmarked, text_of, Changed}
 use Rattle.received_macros.proofs.View.{unmarked_exactly}
 use Rattle.sent_macros.specs.declared.Status.{Status}
 use Rattle.sent_macros.specs.declared.Status.TheVariants.{Pending, PendingFree}
 use Rattle.sent_macros.specs.declared.SendingTable.{SendingTable}
-use Rattle.sent_macros.specs.declared.Fitted.{Fitted}
 use Rattle.sent_macros.specs.Sending.{pending, pending_free, status_number, sent_total, sent_for, defining, stored, stored_room, is_too_long, define_bytes}
-use Rattle.sent_macros.specs.Refinement.{sent_as, has_text, sent_by, kept_texts, view_table, stored_total, WholeTable, RefinesTable, RefinesFitted, RefinesDefine, restated}
+use Rattle.sent_macros.specs.Refinement.{sent_as, has_text, sent_by, kept_texts, view_table, stored_total, WholeTable, RefinesTable, DoesNotFit, FittedAs, DefinedAs, restated}
 use Rattle.sent_macros.proofs.Restating.{view_long, paired_changed, changed_only, restated_met}
 use Rattle.sent_macros.proofs.Totals.{stored_long, total_stored, counted_all}
 
@@ -73,11 +70,8 @@ module _ (t : SendingTable) (whole : WholeTable t) (x : ℕ) (byte : x < 256) (s
   unfolding is_too_long
   too_long_total short = rw (le-ltb stored_room (length (stored s)) short, total_new)
 
-  not_fitted : is_too_long (view_table t) x s ≡ true → (texts : Texts) → RefinesFitted t x s (record { fits = false; texts = texts })
-  not_fitted e texts = record { fits = rw e; short = λ h. absurd (false≢true h); texts = λ h. absurd (false≢true h) }
-
-  pub fitted_over : ltb stored_room (length (stored s)) ≡ true → (texts : Texts) → RefinesFitted t x s (record { fits = false; texts = texts })
-  fitted_over e texts = not_fitted (too_long_text (ltb-true stored_room (length (stored s)) e)) texts
+  pub fitted_over : ltb stored_room (length (stored s)) ≡ true → DoesNotFit t x s
+  fitted_over e = too_long_text (ltb-true stored_room (length (stored s)) e)
 
   -- the stored form is within 255 bytes
   module _ (over : ltb stored_room (length (stored s)) ≡ false) where
@@ -87,39 +81,28 @@ module _ (t : SendingTable) (whole : WholeTable t) (x : ℕ) (byte : x < 256) (s
     judged_is : judged_any old x s ≡ judged_total old x s
     judged_is = rw (le-ltb longest_text (length s) (omega (arith, stored_long s, short)))
 
-    module _ (r : macros-defined.Defined) (met : RefinesDefined (judged_any old x s) (kept_texts t) x s r) where
-      refused_total : (r.verdict ≡ verdict.Accepted → ⊥) → is_too_long (view_table t) x s ≡ true
-      refused_total ne = go (ltb text_room (total (defined old x s))) refl
-        where
-          go : (b : Bool) → ltb text_room (total (defined old x s)) ≡ b → is_too_long (view_table t) x s ≡ true
-          go true e =
-              too_long_total short
-              ∙ lt-ltb text_room (stored_total (defined old x s)) (omega (arith, ltb-true text_room (total (defined old x s)) e, total_stored (defined old x s)))
-          go false e = absurd (ne (met.verdict ∙ judged_is ∙ ap (λ (b : Bool). cond b (verdict.Refused TooLong) verdict.Accepted) e))
+    pub fitted_refused : (reason : Reason) → judged_any old x s ≡ Err reason → DoesNotFit t x s
+    fitted_refused reason is = go (ltb text_room (total (defined old x s))) refl
+      where
+        go : (b : Bool) → ltb text_room (total (defined old x s)) ≡ b → is_too_long (view_table t) x s ≡ true
+        go true e =
+            too_long_total short
+            ∙ lt-ltb text_room (stored_total (defined old x s)) (omega (arith, ltb-true text_room (total (defined old x s)) e, total_stored (defined old x s)))
+        go false e =
+            let accepted : Err reason ≡ Ok tt = sym is ∙ judged_is ∙ ap (λ (b : Bool). cond b (Err TooLong) (Ok tt)) e in
+            let z : ◌≡◌ {A = ℕ} 0 1 = cc in
+            absurd (omega arith)
 
-      pub fitted_refused : (reason : Reason) → r.verdict ≡ verdict.Refused reason → RefinesFitted t x s (record { fits = false; texts = r.table })
-      fitted_refused reason is = not_fitted (refused_total (λ e. let z : ◌≡◌ {A = ℕ} 0 1 = cc in omega arith)) r.table
+    module _ (r : Texts) (new_texts : Changed (defined old x s) (kept_texts t) r) where
+      pub fitted_large : text_room < stored_total (view_texts r) → DoesNotFit t x s
+      fitted_large large = too_long_total short ∙ lt-ltb text_room (stored_total (defined old x s)) (rw (← new_texts.view) large)
 
-      module _ (is : r.verdict ≡ verdict.Accepted) where
-        accepted_met : RefinesDefined verdict.Accepted (kept_texts t) x s r
-        accepted_met = rw (sym met.verdict ∙ is) at met
-
-        new_texts : Changed (defined old x s) (kept_texts t) r.table
-        new_texts = record { room = accepted_met.kept; view = accepted_met.table; clean = accepted_met.clean }
-
-        fits_is : leb (stored_total (defined old x s)) text_room ≡ not (is_too_long (view_table t) x s)
-        fits_is = rw (too_long_total short) (go (ltb text_room (stored_total (defined old x s))) refl)
-          where
-            go : (b : Bool) → ltb text_room (stored_total (defined old x s)) ≡ b → leb (stored_total (defined old x s)) text_room ≡ not b
-            go true e = lt-leb (stored_total (defined old x s)) text_room (ltb-true text_room (stored_total (defined old x s)) e)
-            go false e = le-leb (stored_total (defined old x s)) text_room (ltb-false text_room (stored_total (defined old x s)) e)
-
-        pub fitted_accepted : (n : ℕ) → n ≡ stored_total (view_texts r.table) → RefinesFitted t x s (record { fits = leb n text_room; texts = r.table })
-        fitted_accepted n e = record {
-          fits = rw (e, new_texts.view) fits_is;
-          short = λ h. short;
-          texts = λ h. new_texts;
-        }
+      pub fitted_accepted : stored_total (view_texts r) ≤ text_room → FittedAs t x s r
+      fitted_accepted small = record {
+        fits = too_long_total short ∙ le-ltb text_room (stored_total (defined old x s)) (rw (← new_texts.view) small);
+        short = short;
+        texts = new_texts;
+      }
 
   -- the table after a DEFINE that fits
   module _ (texts : Texts) (changed : Changed (defined old x s) (kept_texts t) texts) where
@@ -139,26 +122,6 @@ module _ (t : SendingTable) (whole : WholeTable t) (x : ℕ) (byte : x < 256) (s
     unfolding defined defining
     defined_met = rw (← sent_is) (restated_met t whole x byte status (entry_for x s) entry_fits texts changed)
 
-  -- what the code answers, from what it found
-  module _ (f : Fitted) (met : RefinesFitted t x s f) where
-    pub not_too_long : f.fits ≡ true → is_too_long (view_table t) x s ≡ false
-    not_too_long e = not-true (is_too_long (view_table t) x s) (sym met.fits ∙ e)
-
-    pub too_long_met : f.fits ≡ false → (out : List ℕ) → RefinesDefine t x s (untouched out) (record { fits = false; wire = 0; table = t })
-    too_long_met e out =
-        let long : is_too_long (view_table t) x s ≡ true = not-false (is_too_long (view_table t) x s) (sym met.fits ∙ e) in
-        record {
-          fits = rw long;
-          wire = rw long (wrote_none out);
-          table = rw long (record { view = refl; clean = λ c. c; same = λ _. refl });
-        }
-
-    module _ (fits : f.fits ≡ true) {out : Lent} {n : ℕ} (wrote : WroteAtStart (define_bytes x s) out n) where
-      pub fits_met : RefinesDefine t x s out (record { fits = true; wire = n; table = restated t x f.texts (cond (is_unmarked f.texts.marks x) PendingFree Pending) })
-      fits_met =
-          let changed = met.texts fits in
-          record {
-            fits = rw (not_too_long fits);
-            wire = rw (not_too_long fits) wrote;
-            table = rw (not_too_long fits, status_is f.texts changed) (defined_met f.texts changed);
-          }
+    pub define_met : {out : Lent} {n : ℕ} → is_too_long (view_table t) x s ≡ false → WroteAtStart (define_bytes x s) out n
+        → DefinedAs t x s out (record { wire = n; table = restated t x texts (cond (is_unmarked texts.marks x) PendingFree Pending) })
+    define_met fits wrote = record { fits = fits; wire = wrote; table = rw status_is defined_met }

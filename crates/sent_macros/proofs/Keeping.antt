@@ -1,17 +1,17 @@
 -- The marks of bytes with a text, the others 0.
 use mathlib.Core.Path.{◌≡◌, refl, sym, ap, ◌∙◌}
 use mathlib.Core.Bool.{Bool, true, false, cond}
-use mathlib.Core.List.{List, append-nil}
-use Prim.Native.Nat.{ℕ, ◌+◌, ◌<◌}
+use mathlib.Core.List.{List}
+use Prim.Native.Nat.{ℕ, ◌+◌, ◌<◌, ◌≤◌}
 use native.Mathlib.Omega.{arith}
 use borrow.Author.Tests.{eq-eqb, eqb-true}
-use lib.ListN.{length, get_or, take, set, drop_of_length-le}
-use lib.Seq.{paste, take_all, ext_get_or}
+use lib.ListN.{length, get_or, set, length-set}
+use lib.Seq.{ext_get_or}
+use Rattle.std.proofs.Common.{◌≢◌, get_or-set_same, get_or-set_other, below_more}
 use Rattle.lists.proofs.Paired.{paired_length, paired_at}
 use Rattle.received_macros.specs.declared.Texts.{Texts}
 use Rattle.received_macros.specs.Texts.{plain, entry_of}
 use Rattle.received_macros.specs.Refinement.{view_texts}
-use Rattle.received_macros.proofs.Copying.{copied_more}
 use Rattle.received_macros.proofs.View.{unmarked_plain}
 use Rattle.sent_macros.specs.declared.SendingTable.{SendingTable}
 use Rattle.sent_macros.specs.Refinement.{status_from, has_text, kept_mark, kept_marks, kept_texts, CleanTable}
@@ -30,19 +30,27 @@ module _ (marks numbers : List ℕ) where
   pub kept_length : length (kept_marks marks numbers) ≡ length marks
   kept_length = paired_length kept_mark 0 marks numbers
 
-  -- one mark after the other, in the place of the old ones
-  pub keep_turn : (out : List ℕ) (i : ℕ) → i < length marks → out ≡ paste marks 0 (kept_marks marks numbers) i
-      → set out i (kept_mark (get_or marks i 0) (get_or numbers i 0)) ≡ paste marks 0 (kept_marks marks numbers) (i + 1)
-  keep_turn out i h e =
-      let z : 0 + i ≡ i = omega arith in
-      rw (← kept_at i) (rw z at (copied_more marks (kept_marks marks numbers) out 0 i (omega arith) (omega (arith, kept_length)) e))
+  -- the marks up to x are those that are kept, the others as they were
+  pub record KeptTo (x : ℕ) (items : List ℕ) : Type 0 where
+    pub done : (k : ℕ) → k < x → get_or items k 0 ≡ get_or (kept_marks marks numbers) k 0
+    pub left : (k : ℕ) → x ≤ k → get_or items k 0 ≡ get_or marks k 0
+    pub long : length items ≡ length marks
 
-  pub kept_all : (n : ℕ) → length marks ≡ n → paste marks 0 (kept_marks marks numbers) n ≡ kept_marks marks numbers
-  kept_all n l =
-      let z : 0 + n ≡ n = omega arith in
-      let all : take n (kept_marks marks numbers) ≡ kept_marks marks numbers = take_all n (kept_marks marks numbers) (omega (arith, kept_length)) in
-      let none = drop_of_length-le marks {i = n} (omega arith) in
-      rw (z, all, none) (append-nil (kept_marks marks numbers))
+  pub none_kept : KeptTo 0 marks
+  none_kept = record { done = λ k h. absurd (omega arith); left = λ k h. refl; long = refl }
+
+  pub kept_more : (x : ℕ) (items : List ℕ) → x < length marks → KeptTo x items → KeptTo (x + 1) (set items x (kept_mark (get_or items x 0) (get_or numbers x 0)))
+  kept_more x items h t =
+      let own : get_or (set items x (kept_mark (get_or items x 0) (get_or numbers x 0))) x 0 ≡ get_or (kept_marks marks numbers) x 0 =
+      rw (get_or-set_same items x (kept_mark (get_or items x 0) (get_or numbers x 0)) 0 (omega (arith, t.long)), t.left x (omega arith), kept_at x) in
+      record {
+        done = below_more _ _ (λ k l. let other : k ≢ x = omega arith in rw get_or-set_other (t.done k l)) own;
+        left = λ k l. let other : k ≢ x = omega arith in rw get_or-set_other (t.left k (omega arith));
+        long = length-set items x (kept_mark (get_or items x 0) (get_or numbers x 0)) ∙ t.long;
+      }
+
+  pub all_kept : (items : List ℕ) → KeptTo (length marks) items → items ≡ kept_marks marks numbers
+  all_kept items t = ext_get_or 0 items (kept_marks marks numbers) (t.long ∙ sym kept_length) (λ k h. t.done k (omega (arith, t.long)))
 
   -- where the marks of bytes without a text are 0, all are kept
   pub kept_same : ((x : ℕ) → has_text (status_from (get_or numbers x 0)) ≡ false → get_or marks x 0 ≡ 0) → kept_marks marks numbers ≡ marks

@@ -1,15 +1,14 @@
 -- The numbers of the statuses.
 use mathlib.Core.Path.{◌≡◌, refl}
-use mathlib.Core.Bool.{Bool, true, false, cond}
+use mathlib.Core.Bool.{false}
 use mathlib.Core.List.{[]}
 use Prim.Native.Nat.{ℕ, zero, suc, ◌≤◌}
 use native.Mathlib.Omega.{arith}
-use borrow.Author.Tests.{ne_eqb, eqb-true}
-use lib.Dec.{eqb}
+use borrow.Author.Tests.{ne_eqb}
 use Rattle.sent_macros.specs.declared.Status.{Status}
 use Rattle.sent_macros.specs.declared.Status.TheVariants.{Free, Pending, PendingFree, Accepted, Refused}
-use Rattle.sent_macros.specs.Sending.{status_number, is_free, is_accepted}
-use Rattle.sent_macros.specs.Refinement.{status_from, sent_as, has_text, kept_mark}
+use Rattle.sent_macros.specs.Sending.{status_number, is_pending, is_free, is_accepted}
+use Rattle.sent_macros.specs.Refinement.{status_from, sent_as}
 
 pub from_number : (s : Status) → status_from (status_number s) ≡ s
 unfolding status_from
@@ -36,46 +35,30 @@ number_most PendingFree = omega arith
 number_most Accepted = omega arith
 number_most Refused = omega arith
 
--- what the numbers of no status with a text give
+-- a number of none of the others
 module _ (n : ℕ) (one : n ≡ 1 → ⊥) (three : n ≡ 3 → ⊥) where
   pub from_other : (n ≡ 0 → ⊥) → (n ≡ 2 → ⊥) → status_from n ≡ Refused
   unfolding status_from
   from_other z two = rw (ne_eqb n 0 z, ne_eqb n 1 one, ne_eqb n 2 two, ne_eqb n 3 three)
 
-  no_text : has_text (status_from n) ≡ false
-  unfolding status_from
-  no_text = rw (ne_eqb n 1 one, ne_eqb n 3 three) (go (eqb n 0) (eqb n 2))
-    where
-      go : (a b : Bool) → has_text (cond a Free (cond b PendingFree Refused)) ≡ false
-      go true b = refl
-      go false true = refl
-      go false false = refl
+-- the tests on a status without its text
+pub not_free : (s : Status) → (s ≡ Free → ⊥) → is_free (sent_as s []) ≡ false
+not_free Free n = absurd (n refl)
+not_free Pending n = refl
+not_free PendingFree n = refl
+not_free Accepted n = refl
+not_free Refused n = refl
 
-  pub no_mark : (mark : ℕ) → kept_mark mark n ≡ 0
-  no_mark mark = rw no_text
+pub not_accepted : (s : Status) → (s ≡ Accepted → ⊥) → is_accepted (sent_as s []) ≡ false
+not_accepted Free n = refl
+not_accepted Pending n = refl
+not_accepted PendingFree n = refl
+not_accepted Accepted n = absurd (n refl)
+not_accepted Refused n = refl
 
--- the tests on a status, by its number
-pub number_free : (n : ℕ) → eqb n 0 ≡ is_free (sent_as (status_from n) [])
-unfolding status_from
-number_free n = go (eqb n 0) (eqb n 1) (eqb n 2) (eqb n 3)
-  where
-    go : (a b c d : Bool) → a ≡ is_free (sent_as (cond a Free (cond b Pending (cond c PendingFree (cond d Accepted Refused)))) [])
-    go true b c d = refl
-    go false true c d = refl
-    go false false true d = refl
-    go false false false true = refl
-    go false false false false = refl
-
-pub number_accepted : (n : ℕ) → eqb n 3 ≡ is_accepted (sent_as (status_from n) [])
-unfolding status_from
-number_accepted n = go (eqb n 3) refl
-  where
-    others : (a b c : Bool) → false ≡ is_accepted (sent_as (cond a Free (cond b Pending (cond c PendingFree Refused))) [])
-    others true b c = refl
-    others false true c = refl
-    others false false true = refl
-    others false false false = refl
-
-    go : (d : Bool) → eqb n 3 ≡ d → d ≡ is_accepted (sent_as (cond (eqb n 0) Free (cond (eqb n 1) Pending (cond (eqb n 2) PendingFree (cond d Accepted Refused)))) [])
-    go true e = rw (eqb-true n 3 e)
-    go false e = others (eqb n 0) (eqb n 1) (eqb n 2)
+pub not_pending : (s : Status) → (s ≡ Pending → ⊥) → (s ≡ PendingFree → ⊥) → is_pending (sent_as s []) ≡ false
+not_pending Free n m = refl
+not_pending Pending n m = absurd (n refl)
+not_pending PendingFree n m = absurd (m refl)
+not_pending Accepted n m = refl
+not_pending Refused n m = refl

@@ -1,8 +1,10 @@
 -- What all texts count: the stored lengths of those that are pending or accepted.
+use Rattle.std.specs.Prelude.{◌==◌, count_by}
+use Rattle.std.proofs.lemmas.List.Sums.{sum_by-cons}
 use mathlib.Core.Path.{◌≡◌, refl, sym}
-use mathlib.Core.Bool.{false, false≢true}
+use mathlib.Core.Bool.{Bool, true, false, false≢true, cond}
 use mathlib.Core.List.{List, [], ◌∷◌, flat_map}
-use Prim.Native.Nat.{ℕ, suc, ◌≤◌}
+use Prim.Native.Nat.{ℕ, suc, ◌+◌, ◌≤◌}
 use native.Mathlib.Omega.{arith}
 use lib.Dec.{eqb, lit≤}
 use lib.ListN.{length, get_or, take, length-append}
@@ -31,6 +33,16 @@ pub stored_long : (s : List ℕ) → length s ≤ length (stored s)
 unfolding flat_map
 stored_long [] = omega arith
 stored_long (b ∷ s) = rw (length-append (coded b) (stored s)) (omega (arith, coded_some b, stored_long s))
+
+-- each 255 is stored as two
+pub stored_counted : (s : List ℕ) → length (stored s) ≡ length s + count_by (λ b. b == 255) s
+unfolding flat_map coded
+stored_counted [] = refl
+stored_counted (b ∷ s) = rw (length-append (coded b) (stored s), stored_counted s, sum_by-cons (λ b. cond (b == 255) 1 0) b s) (go (b == 255))
+  where
+    go : (a : Bool) → length (cond a (255 ∷ 255 ∷ []) (b ∷ [])) + (length s + count_by (λ b. b == 255) s) ≡ length (b ∷ s) + (cond a 1 0 + count_by (λ b. b == 255) s)
+    go true = omega arith
+    go false = omega arith
 
 entry_long : (e : Entry) → entry_length e ≤ length (stored (text_of e))
 entry_long plain = omega arith

@@ -41,6 +41,9 @@ pub bare_at : (numbers : List ℕ) (x : ℕ) → sent_of (bare_table numbers) x 
 unfolding status_from
 bare_at numbers x = paired_at sent_by plain 0 free (λ e. refl) numbers [] x
 
+pub bare_as : (numbers : List ℕ) (x : ℕ) (s : Status) → s ≡ status_from (get_or numbers x 0) → sent_of (bare_table numbers) x ≡ sent_as s []
+bare_as numbers x s e = rw e (bare_at numbers x)
+
 bare_same : (f : Sent → Bool) → ((s : Status) (u : List ℕ) → f (sent_as s u) ≡ f (sent_as s [])) → (t : SendingTable) (x : ℕ)
     → f (sent_of (view_table t) x) ≡ f (sent_of (bare_table t.statuses) x)
 bare_same f h t x = rw (sent_at t x, bare_at t.statuses x) (h (status_from (get_or t.statuses x 0)) (text_of (entry_of (view_texts (kept_texts t)) x)))

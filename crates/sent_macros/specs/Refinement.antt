@@ -1,5 +1,5 @@
 -- The sending table as the code keeps it: a status number for each byte, and the texts packed as the receiving table's are.
-use Rattle.std.specs.Prelude.{◌≡◌, Bool, true, false, not, cond, List, [], map, ℕ, ◌≤◌, eqb, length, get_or, set, replicate}
+use Rattle.std.specs.Prelude.{◌≡◌, Bool, true, false, not, cond, List, [], map, ℕ, ◌≤◌, eqb, length, get_or, set, replicate, Option, MatchOption}
 use Rattle.lists.specs.Lists.{sum, paired}
 use Rattle.lists.specs.Buffers.{Lent, WroteAtStart}
 use Rattle.received_macros.specs.declared.Texts.{Texts}
@@ -8,9 +8,7 @@ use Rattle.received_macros.specs.Refinement.{view_texts, empty_cells, text_of, i
 use Rattle.sent_macros.specs.declared.Status.{Status}
 use Rattle.sent_macros.specs.declared.Status.TheVariants.{Free, Pending, PendingFree, Accepted, Refused}
 use Rattle.sent_macros.specs.declared.SendingTable.{SendingTable}
-use Rattle.sent_macros.specs.declared.Defined.{Defined}
-use Rattle.sent_macros.specs.declared.Cancelled.{Cancelled}
-use Rattle.sent_macros.specs.declared.Fitted.{Fitted}
+use Rattle.sent_macros.specs.declared.Written.{Written}
 use Rattle.sent_macros.specs.Sending.{
   Sent,
   free,
@@ -26,7 +24,7 @@ use Rattle.sent_macros.specs.Sending.{
   stored_room,
   is_too_long,
   defining,
-  defining_bytes,
+  define_bytes,
   cancel_bytes,
   cancelled,
 }
@@ -111,19 +109,34 @@ pub record RefinesTable (d : Definitions) (acts : Bool) (t r : SendingTable) : T
   pub clean : CleanTable t → CleanTable r
   pub same : acts ≡ false → r ≡ t
 
--- the texts with a new one among them, if that fits
-pub record RefinesFitted (t : SendingTable) (x : ℕ) (s : List ℕ) (r : Fitted) : Type 0 where
-  pub fits : r.fits ≡ not (is_too_long (view_table t) x s)
-  pub short : r.fits ≡ true → length (stored s) ≤ stored_room
-  pub texts : r.fits ≡ true → Changed (defined (view_texts (kept_texts t)) x s) (kept_texts t) r.texts
+-- no text X as s: it is too long
+abbrev pub DoesNotFit : SendingTable → ℕ → List ℕ → Type 0
+DoesNotFit t x s = is_too_long (view_table t) x s ≡ true
 
--- a DEFINE of X as s
-pub record RefinesDefine (t : SendingTable) (x : ℕ) (s : List ℕ) (out : Lent) (r : Defined) : Type 0 where
-  pub fits : r.fits ≡ not (is_too_long (view_table t) x s)
-  pub wire : WroteAtStart (defining_bytes (view_table t) x s) out r.wire
-  pub table : RefinesTable (cond (is_too_long (view_table t) x s) (view_table t) (defining (view_table t) x s)) r.fits t r.table
+-- the texts with a new one among them, which fits
+pub record FittedAs (t : SendingTable) (x : ℕ) (s : List ℕ) (r : Texts) : Type 0 where
+  pub fits : is_too_long (view_table t) x s ≡ false
+  pub short : length (stored s) ≤ stored_room
+  pub texts : Changed (defined (view_texts (kept_texts t)) x s) (kept_texts t) r
+
+abbrev pub RefinesFitted : SendingTable → ℕ → List ℕ → Option Texts → Type 0
+RefinesFitted t x s r = MatchOption r (DoesNotFit t x s) (FittedAs t x s)
+
+-- a DEFINE of X as s that is too long: nothing is written
+pub record NotDefined (t : SendingTable) (x : ℕ) (s : List ℕ) (out : Lent) : Type 0 where
+  pub long : DoesNotFit t x s
+  pub wire : WroteAtStart [] out 0
+
+-- .. and one that fits
+pub record DefinedAs (t : SendingTable) (x : ℕ) (s : List ℕ) (out : Lent) (w : Written) : Type 0 where
+  pub fits : is_too_long (view_table t) x s ≡ false
+  pub wire : WroteAtStart (define_bytes x s) out w.wire
+  pub table : RefinesTable (defining (view_table t) x s) true t w.table
+
+abbrev pub RefinesDefine : SendingTable → ℕ → List ℕ → Lent → Option Written → Type 0
+RefinesDefine t x s out r = MatchOption r (NotDefined t x s out) (DefinedAs t x s out)
 
 -- a PLEASE CANCEL of X
-pub record RefinesCancel (t : SendingTable) (x : ℕ) (out : Lent) (r : Cancelled) : Type 0 where
+pub record RefinesCancel (t : SendingTable) (x : ℕ) (out : Lent) (r : Written) : Type 0 where
   pub wire : WroteAtStart (cancel_bytes (view_table t) x) out r.wire
   pub table : RefinesTable (cancelled (view_table t) x) (is_accepted (sent_of (view_table t) x)) t r.table

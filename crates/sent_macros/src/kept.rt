@@ -4,16 +4,15 @@ ghost use Rattle.received_macros.specs.Refinement.{is_unmarked};
 ghost use Rattle.sent_macros.specs.declared.Status.TheVariants.{Pending, PendingFree};
 ghost use Rattle.sent_macros.specs.Refinement.{has_text, sent_as, kept_mark, kept_texts, restated, view_table, RefinesTable};
 
-use crate::{BYTES, SendingTable, Status, statuses};
+use crate::{SendingTable, Status};
 use received_macros::Texts;
 
 fn kept_mark(mark: u16, number: u8) -> u16
     ensures { result ≡ kept_mark mark number }
 {
-    match number {
-        statuses::PENDING => mark,
-        statuses::ACCEPTED => mark,
-        _ => 0,
+    match Status::from(number) {
+        Status::Pending | Status::Accepted => mark,
+        Status::Free | Status::PendingFree | Status::Refused => 0,
     }
 }
 
@@ -21,32 +20,20 @@ fn kept_mark(mark: u16, number: u8) -> u16
 pub fn kept_texts(t: SendingTable) -> Texts
     ensures { result ≡ kept_texts t }
 {
-    let numbers = t.statuses;
-    let texts = t.texts;
-    let old = texts.marks;
-    let cells = texts.cells;
-    let mut marks = old;
-    let mut i: usize = 0;
-    while i < BYTES {
-        let mark = kept_mark(old[i], numbers[i]);
-        marks[i] = mark;
-        i += 1;
+    let mut marks = t.texts.marks;
+    for (x, mark) in marks.iter_mut().enumerate() {
+        *mark = kept_mark(*mark, t.statuses[x]);
     }
-    Texts { marks, cells }
+    Texts { marks, ..t.texts }
 }
 
 // The table with other texts and another status of the byte.
 pub fn with_status(t: SendingTable, x: u8, texts: Texts, s: Status) -> SendingTable
     ensures { result ≡ restated t x texts s }
 {
-    let mut numbers = t.statuses;
-    let at = x as usize;
-    let number = statuses::status_number(s);
-    numbers[at] = number;
-    SendingTable {
-        statuses: numbers,
-        texts,
-    }
+    let mut statuses = t.statuses;
+    statuses[x as usize] = u8::from(s);
+    SendingTable { statuses, texts }
 }
 
 // The byte's text is gone from the cells.
@@ -54,8 +41,7 @@ pub fn without_text(t: SendingTable, x: u8, s: Status) -> SendingTable
     requires { has_text s ≡ false }
     ensures { RefinesTable (set (view_table t) x (sent_as s [])) true t result }
 {
-    let old = kept_texts(t);
-    let texts = received_macros::removed(old, x);
+    let texts = received_macros::removed(kept_texts(t), x);
     with_status(t, x, texts, s)
 }
 
@@ -63,9 +49,9 @@ pub fn without_text(t: SendingTable, x: u8, s: Status) -> SendingTable
 pub fn pending_status(texts: Texts, x: u8) -> Status
     ensures { result ≡ cond (is_unmarked texts.marks x) PendingFree Pending }
 {
-    let marks = texts.marks;
-    if received_macros::is_unmarked(&marks, x) {
-        return Status::PendingFree;
+    if received_macros::is_unmarked(&texts.marks, x) {
+        Status::PendingFree
+    } else {
+        Status::Pending
     }
-    Status::Pending
 }

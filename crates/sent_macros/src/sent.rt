@@ -32,12 +32,8 @@ pub fn put_run(numbers: &[u8; BYTES], bytes: &[u8], out: &mut [u8]) -> usize
     ensures { WroteAtStart (all_data_bytes (bare_table numbers.now) bytes.now) (lent out) result }
 {
     let mut n: usize = 0;
-    let mut i: usize = 0;
-    while i < bytes.len() {
-        let b = bytes[i];
-        let w = put_byte(numbers, b, &mut out[n..]);
-        n += w;
-        i += 1;
+    for b in bytes {
+        n += put_byte(numbers, *b, &mut out[n..]);
     }
     n
 }
@@ -50,10 +46,6 @@ pub fn put_define(x: u8, text: &[u8], out: &mut [u8]) -> usize
     let free = [0u8; BYTES];
     let mut body = [0u8; BODY];
     let n = put_run(&free, text, &mut body[HEAD..]);
-    body[0] = BM;
-    body[1] = DEFINE;
-    body[2] = x;
-    body[3] = n as u8;
-    let end = n + HEAD;
-    wire::put_frame(&body[..end], out)
+    body[..HEAD].copy_from_slice(&[BM, DEFINE, x, n as u8]);
+    wire::put_frame(&body[..HEAD + n], out)
 }

@@ -1,5 +1,5 @@
 -- A stored bulletin end is found again, and a call by value with its state stored is the call on arrays.
-use mathlib.Core.Path.{◌≡◌, sym, ap, subst}
+use mathlib.Core.Path.{◌≡◌, subst}
 use mathlib.Core.Bool.{true, false}
 use Prim.Native.Nat.{ℕ}
 use lib.ListN.{get_or}
@@ -7,7 +7,7 @@ use Rattle.lists.specs.Buffers.{Lent}
 use Rattle.lists.proofs.Uniform.{get_d_uniform}
 use Rattle.negotiation.specs.declared.End.{End}
 use Rattle.negotiation.specs.Carried.{macros_in_force}
-use Rattle.sent_macros.specs.Sending.{Sent, free, status_of, status_number}
+use Rattle.sent_macros.specs.Sending.{free, status_number}
 use Rattle.sent_macros.specs.Refinement.{status_from}
 use Rattle.sent_macros.proofs.Views.{status_at}
 use Rattle.bulletin.specs.Calls.{macro_standing}

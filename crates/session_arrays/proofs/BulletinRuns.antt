@@ -1,4 +1,5 @@
 -- A run of network bytes on the bulletin end's arrays: how its code meets the rule.
+use Rattle.std.specs.Prelude.{Some, None}
 use mathlib.Core.Path.{◌≡◌, refl, sym, ap, subst, ◌∙◌}
 use mathlib.Core.Bool.{true, false}
 use mathlib.Core.List.{List, [], ◌∷◌}
@@ -6,35 +7,34 @@ use Prim.Native.Nat.{ℕ, ◌-◌}
 use native.Mathlib.Omega.{arith}
 use lib.ListN.{length, get_or, set}
 use lib.Seq.{get_or-drop}
-use Rattle.lists.specs.Buffers.{Lent, lent_as, untouched, WroteBothAtStart, RoomFor}
+use Rattle.lists.specs.Buffers.{Lent, lent_as, untouched, WroteBothAtStart}
 use Rattle.lists.proofs.Starts.{wrote_none, wrote_start}
 use Rattle.codes.specs.Answers.{no_room, note_number}
 use Rattle.codes.specs.declared.Code.TheVariants.{Done, NoRoom}
-use Rattle.codes.specs.declared.Note.{Note}
 use Rattle.codes.specs.declared.Note.TheVariants.{Clear}
 use Rattle.codes.proofs.Rooms.{both_lent}
-use Rattle.negotiation.specs.declared.Sides.{Sides}
-use Rattle.reader.specs.declared.Phase.{Phase}
 use Rattle.reader.specs.NetworkRun.{RunEffect, cannot_begin, ran_from}
-use Rattle.reader.proofs.NetworkRun.{run_refused, run_begun, ran_plain, ran_none, further_stays, PlainAt}
-use Rattle.reader.proofs.RunLoop.{Stepped, Finished}
-use Rattle.disposition.specs.declared.Waits.{Waits}
+use Rattle.reader.proofs.NetworkRun.{run_refused, run_begun, ran_plain, ran_none, further_stays}
+use Rattle.reader.specs.NetworkEnd.{PlainAt, Stepped, Finished}
+use Rattle.reader.specs.declared.network_runs.ByteOutcome.{ByteOutcome}
+use Rattle.reader.specs.declared.network_runs.Ran.{Ran}
 use Rattle.bulletin.specs.State.{BulletinState, Effect}
 use Rattle.bulletin.specs.Network.{network_read}
 use Rattle.bulletin.specs.Calls.{network_call}
 use Rattle.bulletin.specs.NetworkRun.{giving, bulletin_byte, network_run}
-use Rattle.bulletin.specs.InPlace.{InPlaceEffect, in_place, RefinesInPlace}
+use Rattle.bulletin.specs.InPlace.{in_place, HasRoom, RefinesInPlace}
 use Rattle.bulletin.specs.Refinement.{view_bulletin, CleanBulletin, RefinesAnswer}
 use Rattle.bulletin.specs.declared.Bulletin.{Bulletin}
 use Rattle.bulletin.specs.declared.Answer.{Answer}
 use Rattle.bulletin.specs.declared.in_place.InPlace.{InPlace}
-use Rattle.bulletin.proofs.InPlace.{read_in_place, does_nothing, in_place_fits}
+use Rattle.bulletin.specs.declared.in_place.Parts.{Parts}
+use Rattle.bulletin.proofs.InPlace.{read_in_place, room_in_place, refined_none, refined_some}
 use Rattle.bulletin.proofs.PlainBytes.{byte_plain}
-use Rattle.bulletin.proofs.Runs.{lawful, call_done}
-use Rattle.session_arrays.specs.declared.ByteOutcome.{ByteOutcome}
-use Rattle.session_arrays.specs.Numbers.{sides_in, phase_of, run_outcome}
-use Rattle.session_arrays.specs.BulletinArrays.{BulletinArrays, waits_in, decoded_bulletin, small_in_place, encoded_bulletin, LentBulletin, arrays_of_bulletin}
-use Rattle.session_arrays.specs.BulletinRuns.{SoundBulletin, RefinesByteOnBulletinArrays, RefinesRunOutcomeOnBulletinArrays, RefinesRunOnBulletinArrays, is_plain_in, in_place_in}
+use Rattle.bulletin.specs.NetworkEnd.{lawful, call_done}
+use Rattle.session_arrays.specs.declared.bulletin_arrays.LentBulletinArrays.{LentBulletinArrays}
+use Rattle.session_arrays.specs.Numbers.{run_outcome}
+use Rattle.session_arrays.specs.BulletinArrays.{BulletinArrays, decoded_bulletin, small_in_place, encoded_bulletin, LentBulletin, arrays_of_bulletin, lent_between, SameArrays}
+use Rattle.session_arrays.specs.BulletinRuns.{view_lent, Keeps, SoundBulletin, RefinesByteOnBulletinArrays, RefinesRunOutcomeOnBulletinArrays, RefinesRunOnBulletinArrays, is_plain_in, in_place_in}
 use Rattle.session_arrays.proofs.BulletinArrays.{bulletin_found_again}
 use Rattle.session_arrays.proofs.Decoding.{option_state_found, phase_found, flag_found}
 
@@ -69,68 +69,56 @@ byte_by_value b {before} {after} {host} {wire} {s} {a} room found refines stored
     (stands_for a.state (ap decoded_bulletin stored ∙ bulletin_found_again a.state) (λ k. stored) (λ k. refines.clean (subst CleanBulletin (sym found) k)) refines.note (record { paper = refines.given; wire = refines.sent }) refines.view)
 
 -- the option states, the phase and the waits stored alone: the arrays then stand for the same state with these parts
-module _ (sides : Sides) (phase : Phase) (waits : Waits) where
+module _ (p : Parts) where
   abbrev stored_in_place : BulletinArrays → BulletinArrays
-  stored_in_place a = arrays_of_bulletin (small_in_place a.small sides phase waits) a.counts a.body a.statuses a.marks a.cells a.issue a.kept
+  stored_in_place a = arrays_of_bulletin (small_in_place a.small p) a.counts a.body a.statuses a.marks a.cells a.issue a.kept
 
-  in_place_found : (a : BulletinArrays) → decoded_bulletin (stored_in_place a) ≡ in_place (decoded_bulletin a) sides phase waits
+  in_place_found : (a : BulletinArrays) → decoded_bulletin (stored_in_place a) ≡ in_place (decoded_bulletin a) p
   in_place_found a = simp (option_state_found, phase_found, flag_found, get_or-drop)
 
 -- a byte that was handled in place
-pub byte_in_place : (b : ℕ) (before : BulletinArrays) {small : List ℕ} {host wire : Lent} {r : InPlace}
-    → RefinesInPlace (in_place_in before.small b) host wire r → r.handled ≡ true
-    → small ≡ small_in_place before.small r.sides r.phase r.waits
+pub byte_in_place : (b : ℕ) (before : BulletinArrays) {small : List ℕ} {host wire : Lent} (r : InPlace)
+    → RefinesInPlace (in_place_in before.small b) host wire (Some r)
+    → small ≡ small_in_place before.small r.parts
     → RefinesByteOnBulletinArrays (network_read (view_arrays before) b)
     (lent_arrays before (arrays_of_bulletin small before.counts before.body before.statuses before.marks before.cells before.issue before.kept))
     host wire (record { note = Clear; first = r.host; wire = r.wire })
-byte_in_place b before {small} {host} {wire} {r} m h put =
+byte_in_place b before {small} {host} {wire} r met put =
     let s = decoded_bulletin before in
-    let e : InPlaceEffect = in_place_in before.small b in
-    let at : small ≡ small_in_place before.small e.sides e.phase e.waits = rw (put, m.sides, m.phase, m.waits) in
-    rw (read_in_place s b (sym m.handled ∙ h), at)
-    (stands_for (in_place s e.sides e.phase e.waits) (in_place_found e.sides e.phase e.waits before)
-    (λ k. ap (stored_in_place e.sides e.phase e.waits) (sym k.encoded))
-    (λ k. record { reader = k.reader; table = k.table }) refl m.wrote refl)
+    let found = refined_some (in_place_in before.small b) host wire r met in
+    let p = found.0.parts in
+    let at : small ≡ small_in_place before.small p = put ∙ ap (small_in_place before.small) found.1.1.parts in
+    rw (read_in_place s b found.0 found.1.0, at)
+    (stands_for (in_place s p) (in_place_found p before) (λ k. ap (stored_in_place p) (sym k.encoded))
+    (λ k. record { reader = k.reader; table = k.table }) refl found.1.1.wrote refl)
 
 -- one that was not handled: both buffers are as they were
-module _ (small : List ℕ) (b : ℕ) {host wire : Lent} {r : InPlace} (m : RefinesInPlace (in_place_in small b) host wire r) (h : r.handled ≡ false) where
-  still : (host.after ≡ host.before) × (wire.after ≡ wire.before)
-  still =
-      let none = does_nothing (sides_in small) (phase_of (get_or small 9 0)) (waits_in small) b (sym m.handled ∙ h) in
-      let wrote : WroteBothAtStart [] [] host wire r.host r.wire = rw none at m.wrote in
-      (wrote.paper.cells, wrote.wire.cells)
-
-  pub room_still : no_room (length host.before) (length wire.before) ≡ false → no_room (length host.after) (length wire.after) ≡ false
-  room_still room = rw (still.0, still.1) room
-
-  pub read_then : {d : Effect} {arrays : LentBulletin} {last_host last_wire : List ℕ} {o : ByteOutcome}
-      → RefinesByteOnBulletinArrays d arrays (lent_as host.after last_host) (lent_as wire.after last_wire) o
-      → RefinesByteOnBulletinArrays d arrays (lent_as host.before last_host) (lent_as wire.before last_wire) o
-  read_then n = rw (still.0, still.1) at n
+pub byte_stays : (before : BulletinArrays) (b : ℕ) (host wire : Lent) → RefinesInPlace (in_place_in before.small b) host wire None
+    → (host.after ≡ host.before) × (wire.after ≡ wire.before)
+byte_stays before b host wire met =
+    let wrote = refined_none (in_place_in before.small b) host wire met in
+    (wrote.paper.cells, wrote.wire.cells)
 
 -- the room that code 1 asks for is enough for what a byte writes in place
-pub room_in_place : (small : List ℕ) (b : ℕ) (host wire : List ℕ) → no_room (length host) (length wire) ≡ false
-    → RoomFor (in_place_in small b).host host × RoomFor (in_place_in small b).wire wire
-room_in_place small b host wire room =
-    let fits = in_place_fits (decoded_bulletin (arrays_of_bulletin small [] [] [] [] [] [] [])) b in
-    let lent = both_lent (length host) (length wire) room in
-    (omega (arith, fits.0, lent.0), omega (arith, fits.1, lent.1))
+pub room_in_arrays : (small : List ℕ) (b : ℕ) (host wire : List ℕ) → no_room (length host) (length wire) ≡ false → HasRoom (in_place_in small b) host wire
+room_in_arrays small b host wire room = room_in_place (decoded_bulletin (arrays_of_bulletin small [] [] [] [] [] [] [])) b host wire room
 
 -- a step on arrays, and a run's outcome, as the laws at either end have them
-pub stepped : {d : Effect} {before after : BulletinArrays} {host wire : Lent} {r : ByteOutcome} → RefinesByteOnBulletinArrays d (lent_arrays before after) host wire r
-    → Stepped lawful view_arrays SoundBulletin d before after r.note host wire r.first r.wire
-stepped m = record { note = m.note; on_first = m.wrote.paper; on_wire = m.wrote.wire; sees = m.view; clean = m.sound }
+pub stepped : {d : Effect} {before after : LentBulletinArrays} {host wire : Lent} {r : ByteOutcome}
+    → RefinesByteOnBulletinArrays d (lent_between before after) host wire r → SameArrays before after
+    → Stepped lawful view_lent Keeps d before after r.note host wire r.first r.wire
+stepped m same = record { note = m.note; on_first = m.wrote.paper; on_wire = m.wrote.wire; sees = m.view; kept = record { sound = m.sound; same_arrays = same } }
 
-pub refines_run : {x : RunEffect Effect} {before after : BulletinArrays} {n : Note} {k p w : ℕ} {host wire : Lent}
-    → Finished lawful view_arrays SoundBulletin x before after n k host wire p w
-    → RefinesRunOutcomeOnBulletinArrays (record { code = Done; ran = x }) (lent_arrays before after) host wire (run_outcome Done n k p w)
+pub refines_run : {x : RunEffect Effect} {before after : LentBulletinArrays} {host wire : Lent} {r : Ran}
+    → Finished lawful view_lent Keeps x before after host wire r
+    → RefinesRunOutcomeOnBulletinArrays (record { code = Done; ran = x }) (lent_between before after) host wire (run_outcome Done r.note r.taken r.first r.wire)
 refines_run f = record {
   code = refl;
   note = ap note_number f.step.note;
   taken = f.taken;
   wrote = record { paper = f.step.on_first; wire = f.step.on_wire };
   view = f.step.sees;
-  sound = f.step.clean;
+  sound = f.step.kept.sound;
   same = λ n. absurd (n refl);
 }
 

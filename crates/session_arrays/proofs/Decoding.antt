@@ -7,7 +7,9 @@ use Rattle.negotiation.specs.declared.OptionState.TheVariants.{No, Yes, WantNo, 
 use Rattle.reader.specs.declared.Phase.{Phase}
 use Rattle.reader.specs.declared.Phase.TheVariants.{Between, AfterIac, AfterVerb, InBody, InBodyAfterIac}
 use Rattle.bulletin.specs.declared.Output.TheVariants.{Ready, Waiting}
-use Rattle.session_arrays.specs.Numbers.{option_state_number, option_state_of, phase_number, phase_of, flag_number, flag_of, output_number}
+use Rattle.negotiation.specs.Numbers.{option_state_number, option_state_of}
+use Rattle.reader.specs.Numbers.{phase_number, phase_of}
+use Rattle.session_arrays.specs.Numbers.{flag_number, flag_of, output_number}
 
 pub option_state_found : (q : OptionState) → option_state_of (option_state_number q) ≡ q
 unfolding option_state_of

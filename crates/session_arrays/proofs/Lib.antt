@@ -4,4 +4,3 @@ pub mod Decoding
 pub mod PrinterArrays
 pub mod PrinterInPlace
 pub mod PrinterRuns
-pub mod Rests

@@ -1,5 +1,5 @@
 -- A stored printer end is found again, and a call by value with its state stored is the call on arrays.
-use mathlib.Core.Path.{◌≡◌, refl, subst}
+use mathlib.Core.Path.{◌≡◌, subst}
 use Prim.Native.Nat.{ℕ}
 use Rattle.lists.specs.Buffers.{Lent}
 use Rattle.printer.specs.State.{PrinterState, CallEffect}

@@ -9,12 +9,13 @@ use Rattle.lists.specs.Buffers.{Lent, lent_as, untouched}
 use Rattle.lists.proofs.Starts.{wrote_none, wrote_start}
 use Rattle.codes.specs.Answers.{no_room, note_number}
 use Rattle.codes.specs.declared.Code.TheVariants.{Done, NoRoom}
-use Rattle.codes.specs.declared.Note.{Note}
 use Rattle.codes.specs.declared.Note.TheVariants.{Clear}
 use Rattle.codes.proofs.Rooms.{both_lent}
 use Rattle.reader.specs.NetworkRun.{RunEffect, cannot_begin, ran_from}
-use Rattle.reader.proofs.NetworkRun.{run_refused, run_begun, ran_plain, ran_none, further_stays, PlainAt}
-use Rattle.reader.proofs.RunLoop.{Stepped, Finished}
+use Rattle.reader.proofs.NetworkRun.{run_refused, run_begun, ran_plain, ran_none, further_stays}
+use Rattle.reader.specs.NetworkEnd.{PlainAt, Stepped, Finished}
+use Rattle.reader.specs.declared.network_runs.ByteOutcome.{ByteOutcome}
+use Rattle.reader.specs.declared.network_runs.Ran.{Ran}
 use Rattle.printer.specs.State.{PrinterState, Effect, printing}
 use Rattle.printer.specs.Network.{network_read}
 use Rattle.printer.specs.Calls.{network_call}
@@ -23,11 +24,11 @@ use Rattle.printer.specs.Refinement.{view_printer, CleanPrinter, RefinesAnswer}
 use Rattle.printer.specs.declared.Printer.{Printer}
 use Rattle.printer.specs.declared.Answer.{Answer}
 use Rattle.printer.proofs.PlainBytes.{byte_plain}
-use Rattle.printer.proofs.Runs.{lawful, call_done}
-use Rattle.session_arrays.specs.declared.ByteOutcome.{ByteOutcome}
+use Rattle.printer.specs.NetworkEnd.{lawful, call_done}
+use Rattle.session_arrays.specs.declared.printer_arrays.LentPrinterArrays.{LentPrinterArrays}
 use Rattle.session_arrays.specs.Numbers.{run_outcome}
-use Rattle.session_arrays.specs.PrinterArrays.{PrinterArrays, decoded_printer, encoded_printer, LentPrinter}
-use Rattle.session_arrays.specs.PrinterRuns.{SoundPrinter, RefinesByteOnPrinterArrays, RefinesRunOutcomeOnPrinterArrays, RefinesRunOnPrinterArrays, is_plain_in}
+use Rattle.session_arrays.specs.PrinterArrays.{PrinterArrays, decoded_printer, encoded_printer, LentPrinter, arrays_in, lent_between, SameArrays}
+use Rattle.session_arrays.specs.PrinterRuns.{view_lent, Keeps, RefinesByteOnPrinterArrays, RefinesRunOutcomeOnPrinterArrays, RefinesRunOnPrinterArrays, is_plain_in}
 use Rattle.session_arrays.proofs.PrinterArrays.{printer_found_again}
 
 -- the state that arrays stand for, as the rules see it
@@ -54,20 +55,28 @@ byte_by_value b {before} {after} {paper} {wire} {s} {a} room found refines store
     })
 
 -- a step on arrays, and a run's outcome, as the laws at either end have them
-pub stepped : {d : Effect} {before after : PrinterArrays} {paper wire : Lent} {r : ByteOutcome} → RefinesByteOnPrinterArrays d (lent_arrays before after) paper wire r
-    → Stepped lawful view_arrays SoundPrinter d before after r.note paper wire r.first r.wire
-stepped m = record { note = m.note; on_first = m.wrote.paper; on_wire = m.wrote.wire; sees = m.view; clean = m.sound }
+pub stepped : {d : Effect} {before after : LentPrinterArrays} {paper wire : Lent} {r : ByteOutcome}
+    → RefinesByteOnPrinterArrays d (lent_between before after) paper wire r → SameArrays before after
+    → Stepped lawful view_lent Keeps d before after r.note paper wire r.first r.wire
+stepped m same = record { note = m.note; on_first = m.wrote.paper; on_wire = m.wrote.wire; sees = m.view; kept = record { sound = m.sound; same_arrays = same } }
 
-pub refines_run : {x : RunEffect Effect} {before after : PrinterArrays} {n : Note} {k p w : ℕ} {paper wire : Lent}
-    → Finished lawful view_arrays SoundPrinter x before after n k paper wire p w
-    → RefinesRunOutcomeOnPrinterArrays (record { code = Done; ran = x }) (lent_arrays before after) paper wire (run_outcome Done n k p w)
+-- .. where it was not read in place: everything is still as it was
+pub stepped_then : (b : ℕ) (before : LentPrinterArrays) {at : PrinterArrays} {after : LentPrinterArrays} {paper wire paper_after wire_after : List ℕ} {paper_at wire_at : List ℕ} {r : ByteOutcome}
+    → (at ≡ arrays_in before) × (paper_at ≡ paper) × (wire_at ≡ wire) → SameArrays before after
+    → RefinesByteOnPrinterArrays (network_read (view_arrays at) b) (lent_arrays at (arrays_in after)) (lent_as paper_at paper_after) (lent_as wire_at wire_after) r
+    → Stepped lawful view_lent Keeps (network_read (view_lent before) b) before after r.note (lent_as paper paper_after) (lent_as wire wire_after) r.first r.wire
+stepped_then b before still same m = stepped (rw (still.0, still.1, still.2) at m) same
+
+pub refines_run : {x : RunEffect Effect} {before after : LentPrinterArrays} {paper wire : Lent} {r : Ran}
+    → Finished lawful view_lent Keeps x before after paper wire r
+    → RefinesRunOutcomeOnPrinterArrays (record { code = Done; ran = x }) (lent_between before after) paper wire (run_outcome Done r.note r.taken r.first r.wire)
 refines_run f = record {
   code = refl;
   note = ap note_number f.step.note;
   taken = f.taken;
   wrote = record { paper = f.step.on_first; wire = f.step.on_wire };
   view = f.step.sees;
-  sound = f.step.clean;
+  sound = f.step.kept.sound;
   same = λ n. absurd (n refl);
 }
 

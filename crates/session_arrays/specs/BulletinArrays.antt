@@ -4,10 +4,9 @@ use denote.Ref.{MutBor}
 use denote.Triple.Both.{Both}
 use Rattle.lists.specs.Buffers.{Lent}
 use Rattle.codes.specs.Answers.{code_number, note_number, is_done}
-use Rattle.negotiation.specs.declared.Sides.{Sides}
-use Rattle.reader.specs.declared.Phase.{Phase}
-use Rattle.disposition.specs.declared.Waits.{Waits}
+use Rattle.disposition.specs.ByOption.{Waits}
 use Rattle.sent_macros.specs.Sending.{status_number}
+use Rattle.bulletin.specs.declared.in_place.Parts.{Parts}
 use Rattle.bulletin.specs.State.{BulletinState, CallEffect}
 use Rattle.bulletin.specs.Calls.{macro_standing, dispositions_report, output_now}
 use Rattle.bulletin.specs.Refinement.{view_bulletin, RefinesAnswer, RefinesAnswerOnWire}
@@ -17,6 +16,7 @@ use Rattle.bulletin.specs.declared.Standing.{Standing}
 use Rattle.session_arrays.specs.declared.Outcome.{Outcome}
 use Rattle.session_arrays.specs.declared.Reported.{Reported}
 use Rattle.session_arrays.specs.declared.StandingNumbers.{StandingNumbers}
+use Rattle.session_arrays.specs.declared.bulletin_arrays.LentBulletinArrays.{LentBulletinArrays}
 use Rattle.session_arrays.specs.Numbers.{flag_number, flag_of, sides_in, reader_in, sides_and_phase, small_of, values_in, value_numbers, reports_in, output_number}
 
 -- small: the states of the nine sides, the reader's phase and whether its body is marred, whether output waits for each option about
@@ -58,8 +58,8 @@ abbrev pub small_of_bulletin : Bulletin → List ℕ
 small_of_bulletin b = small_of b.sides b.reader (wait_numbers b.waits ++ value_numbers b.values)
 
 -- the small parts with other option states, another phase and other waits, the rest as it was
-abbrev pub small_in_place : List ℕ → Sides → Phase → Waits → List ℕ
-small_in_place small sides phase waits = sides_and_phase sides phase ++ get_or small 10 0 ∷ wait_numbers waits ++ drop 15 small
+abbrev pub small_in_place : List ℕ → Parts → List ℕ
+small_in_place small p = sides_and_phase p.sides p.phase ++ get_or small 10 0 ∷ wait_numbers p.waits ++ drop 15 small
 
 abbrev pub encoded_bulletin : Bulletin → BulletinArrays
 encoded_bulletin b = record {
@@ -140,3 +140,21 @@ lent_bulletin small counts body statuses marks cells issue kept = record {
   before = arrays_of_bulletin small.entry.now counts.entry.now body.entry.now statuses.entry.now marks.entry.now cells.entry.now issue.entry.now kept.entry.now;
   after = arrays_of_bulletin small.exit.now counts.exit.now body.exit.now statuses.exit.now marks.exit.now cells.exit.now issue.exit.now kept.exit.now;
 }
+
+-- .. in one struct, as they stand, and as they stood before
+abbrev pub arrays_in : LentBulletinArrays → BulletinArrays
+arrays_in a = arrays_of_bulletin a.small.now a.counts.now a.body.now a.statuses.now a.marks.now a.cells.now a.issue.now a.kept.now
+
+abbrev pub lent_between : LentBulletinArrays → LentBulletinArrays → LentBulletin
+lent_between before after = record { before = arrays_in before; after = arrays_in after }
+
+-- the struct still lends what it lent
+pub record SameArrays (before after : LentBulletinArrays) : Type 0 where
+  pub small : after.small.ghost_name ≡ before.small.ghost_name
+  pub counts : after.counts.ghost_name ≡ before.counts.ghost_name
+  pub body : after.body.ghost_name ≡ before.body.ghost_name
+  pub statuses : after.statuses.ghost_name ≡ before.statuses.ghost_name
+  pub marks : after.marks.ghost_name ≡ before.marks.ghost_name
+  pub cells : after.cells.ghost_name ≡ before.cells.ghost_name
+  pub issue : after.issue.ghost_name ≡ before.issue.ghost_name
+  pub kept : after.kept.ghost_name ≡ before.kept.ghost_name

@@ -1,17 +1,20 @@
 -- A run of network bytes at the bulletin end, on arrays that a host lends.
-use Rattle.std.specs.Prelude.{◌≡◌, Bool, List, ℕ, length, get_or}
+use Rattle.std.specs.Prelude.{◌≡◌, Bool, List, ℕ, length, get_or, Option, Some, None}
 use Rattle.lists.specs.Buffers.{Lent, WroteBothAtStart}
 use Rattle.codes.specs.Answers.{code_number, note_number}
 use Rattle.codes.specs.declared.Code.TheVariants.{Done}
+use Rattle.reader.specs.Numbers.{phase_of}
 use Rattle.reader.specs.NetworkRun.{RunCallEffect}
-use Rattle.bulletin.specs.State.{Effect}
+use Rattle.bulletin.specs.State.{BulletinState, Effect}
+use Rattle.bulletin.specs.declared.in_place.Parts.{Parts}
 use Rattle.bulletin.specs.InPlace.{InPlaceEffect, in_place_read}
 use Rattle.bulletin.specs.Stretches.{data_stretch, is_plain_byte}
 use Rattle.bulletin.specs.Refinement.{view_bulletin, CleanBulletin}
-use Rattle.session_arrays.specs.declared.ByteOutcome.{ByteOutcome}
+use Rattle.reader.specs.declared.network_runs.ByteOutcome.{ByteOutcome}
 use Rattle.session_arrays.specs.declared.RunOutcome.{RunOutcome}
-use Rattle.session_arrays.specs.Numbers.{sides_in, phase_of}
-use Rattle.session_arrays.specs.BulletinArrays.{BulletinArrays, waits_in, decoded_bulletin, encoded_bulletin, LentBulletin}
+use Rattle.session_arrays.specs.Numbers.{sides_in}
+use Rattle.session_arrays.specs.declared.bulletin_arrays.LentBulletinArrays.{LentBulletinArrays}
+use Rattle.session_arrays.specs.BulletinArrays.{BulletinArrays, waits_in, decoded_bulletin, encoded_bulletin, LentBulletin, arrays_in, SameArrays}
 
 -- the arrays as a session leaves them, as at the printer end
 pub record SoundBulletin (a : BulletinArrays) : Type 0 where
@@ -46,5 +49,21 @@ stretch_in small bytes = data_stretch (phase_of (get_or small 9 0)) (waits_in sm
 abbrev pub is_plain_in : (small : List ℕ) → ℕ → Bool
 is_plain_in small b = is_plain_byte (phase_of (get_or small 9 0)) (waits_in small) b
 
-abbrev pub in_place_in : (small : List ℕ) → ℕ → InPlaceEffect
-in_place_in small b = in_place_read (sides_in small) (phase_of (get_or small 9 0)) (waits_in small) b
+abbrev pub parts_in : (small : List ℕ) → Parts
+parts_in small = record { sides = sides_in small; phase = phase_of (get_or small 9 0); waits = waits_in small }
+
+abbrev pub in_place_in : (small : List ℕ) → ℕ → Option InPlaceEffect
+in_place_in small b = in_place_read (parts_in small) b
+
+-- a byte read in place by the code, as at the printer end
+abbrev pub ReadsInPlace : Effect → LentBulletin → (host wire : Lent) → Option ByteOutcome → Type 0
+ReadsInPlace d arrays host wire (Some r) = RefinesByteOnBulletinArrays d arrays host wire r
+ReadsInPlace d arrays host wire None = (arrays.after ≡ arrays.before) × (host.after ≡ host.before) × (wire.after ≡ wire.before)
+
+-- the struct of arrays as it reads runs: the state that it stands for, and what bytes keep of it besides
+abbrev pub view_lent : LentBulletinArrays → BulletinState
+view_lent a = view_bulletin (decoded_bulletin (arrays_in a))
+
+pub record Keeps (s t : LentBulletinArrays) : Type 0 where
+  pub sound : SoundBulletin (arrays_in s) → SoundBulletin (arrays_in t)
+  pub same_arrays : SameArrays s t

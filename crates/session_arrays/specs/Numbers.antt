@@ -3,59 +3,21 @@ use Rattle.std.specs.Prelude.{Bool, true, false, not, cond, List, [], ◌∷◌,
 use Rattle.codes.specs.Answers.{code_number, note_number}
 use Rattle.codes.specs.declared.Code.{Code}
 use Rattle.codes.specs.declared.Note.{Note}
-use Rattle.codes.specs.declared.Verb.TheVariants.{Will, Wont, Do, Dont}
 use Rattle.keys.specs.declared.Key.{Key}
 use Rattle.keys.specs.declared.Key.TheVariants.{Char, Line, Command}
-use Rattle.negotiation.specs.declared.OptionState.{OptionState}
-use Rattle.negotiation.specs.declared.OptionState.TheVariants.{No, Yes, WantNo, WantNoOpposite, WantYes, WantYesOpposite}
 use Rattle.negotiation.specs.declared.Sides.{Sides}
+use Rattle.negotiation.specs.Numbers.{option_state_number, option_state_of}
 use Rattle.reader.specs.declared.Phase.{Phase}
-use Rattle.reader.specs.declared.Phase.TheVariants.{Between, AfterIac, AfterVerb, InBody, InBodyAfterIac}
 use Rattle.reader.specs.declared.Reader.{Reader}
-use Rattle.disposition.specs.declared.AllValues.{AllValues}
+use Rattle.reader.specs.Numbers.{phase_number, phase_of}
+use Rattle.disposition.specs.ByOption.{AllValues}
+use Rattle.disposition.specs.declared.Values.{Values}
 use Rattle.disposition.specs.Handled.{Report}
 use Rattle.bulletin.specs.declared.Output.{Output}
 use Rattle.bulletin.specs.declared.Output.TheVariants.{Ready, Waiting}
 use Rattle.session_arrays.specs.declared.Handler.{Handler}
 use Rattle.session_arrays.specs.declared.Reported.{Reported}
 use Rattle.session_arrays.specs.declared.RunOutcome.{RunOutcome}
-use Rattle.session_arrays.specs.declared.SideNumbers.{SideNumbers}
-
-abbrev pub option_state_number : OptionState → ℕ
-option_state_number No = 0
-option_state_number Yes = 1
-option_state_number WantNo = 2
-option_state_number WantNoOpposite = 3
-option_state_number WantYes = 4
-option_state_number WantYesOpposite = 5
-
-unfoldable pub option_state_of : ℕ → OptionState
-option_state_of n =
-    cond (eqb n 1) Yes
-    (cond (eqb n 2) WantNo
-    (cond (eqb n 3) WantNoOpposite
-    (cond (eqb n 4) WantYes
-    (cond (eqb n 5) WantYesOpposite No))))
-
-abbrev pub phase_number : Phase → ℕ
-phase_number Between = 0
-phase_number AfterIac = 1
-phase_number (AfterVerb Will) = 2
-phase_number (AfterVerb Wont) = 3
-phase_number (AfterVerb Do) = 4
-phase_number (AfterVerb Dont) = 5
-phase_number InBody = 6
-phase_number InBodyAfterIac = 7
-
-unfoldable pub phase_of : ℕ → Phase
-phase_of n =
-    cond (eqb n 1) AfterIac
-    (cond (eqb n 2) (AfterVerb Will)
-    (cond (eqb n 3) (AfterVerb Wont)
-    (cond (eqb n 4) (AfterVerb Do)
-    (cond (eqb n 5) (AfterVerb Dont)
-    (cond (eqb n 6) InBody
-    (cond (eqb n 7) InBodyAfterIac Between))))))
 
 abbrev pub flag_number : Bool → ℕ
 flag_number true = 1
@@ -64,48 +26,21 @@ flag_number false = 0
 abbrev pub flag_of : ℕ → Bool
 flag_of n = not (eqb n 0)
 
--- the nine sides' states from their numbers, and back
-abbrev pub sides_of : SideNumbers → Sides
-sides_of n = record {
-  echo = option_state_of n.echo;
-  sga = option_state_of n.sga;
-  rcte = option_state_of n.rcte;
-  bm = option_state_of n.bm;
-  printersga = option_state_of n.printersga;
-  dispositions = record {
-    naocrd = option_state_of n.naocrd;
-    naolfd = option_state_of n.naolfd;
-    naoffd = option_state_of n.naoffd;
-    naohtd = option_state_of n.naohtd;
-  };
-}
-
-abbrev pub side_numbers : Sides → SideNumbers
-side_numbers s = record {
-  echo = option_state_number s.echo;
-  sga = option_state_number s.sga;
-  rcte = option_state_number s.rcte;
-  bm = option_state_number s.bm;
-  printersga = option_state_number s.printersga;
-  naocrd = option_state_number s.dispositions.naocrd;
-  naolfd = option_state_number s.dispositions.naolfd;
-  naoffd = option_state_number s.dispositions.naoffd;
-  naohtd = option_state_number s.dispositions.naohtd;
-}
-
 -- at either end the small parts begin with the states of the nine sides, the reader's phase and whether its body is marred
 abbrev pub sides_in : List ℕ → Sides
-sides_in small = sides_of (record {
-  echo = get_or small 0 0;
-  sga = get_or small 1 0;
-  rcte = get_or small 2 0;
-  bm = get_or small 3 0;
-  printersga = get_or small 4 0;
-  naocrd = get_or small 5 0;
-  naolfd = get_or small 6 0;
-  naoffd = get_or small 7 0;
-  naohtd = get_or small 8 0;
-})
+sides_in small = record {
+  echo = option_state_of (get_or small 0 0);
+  sga = option_state_of (get_or small 1 0);
+  rcte = option_state_of (get_or small 2 0);
+  bm = option_state_of (get_or small 3 0);
+  printersga = option_state_of (get_or small 4 0);
+  dispositions = record {
+    naocrd = option_state_of (get_or small 5 0);
+    naolfd = option_state_of (get_or small 6 0);
+    naoffd = option_state_of (get_or small 7 0);
+    naohtd = option_state_of (get_or small 8 0);
+  };
+}
 
 abbrev pub reader_from : (phase marred len : ℕ) → List ℕ → Reader
 reader_from phase marred len body = record { phase = phase_of phase; marred = flag_of marred; body = body; len = len }
@@ -115,20 +50,32 @@ reader_in small counts body = reader_from (get_or small 9 0) (get_or small 10 0)
 
 abbrev pub sides_and_phase : Sides → Phase → List ℕ
 sides_and_phase s phase =
-    let n = side_numbers s in
-    n.echo ∷ n.sga ∷ n.rcte ∷ n.bm ∷ n.printersga ∷ n.naocrd ∷ n.naolfd ∷ n.naoffd ∷ n.naohtd ∷ phase_number phase ∷ []
+    option_state_number s.echo
+    ∷ option_state_number s.sga
+    ∷ option_state_number s.rcte
+    ∷ option_state_number s.bm
+    ∷ option_state_number s.printersga
+    ∷ option_state_number s.dispositions.naocrd
+    ∷ option_state_number s.dispositions.naolfd
+    ∷ option_state_number s.dispositions.naoffd
+    ∷ option_state_number s.dispositions.naohtd
+    ∷ phase_number phase
+    ∷ []
 
 -- .. followed by the parts that are an end's own
 abbrev pub small_of : Sides → Reader → List ℕ → List ℕ
 small_of s r own = sides_and_phase s r.phase ++ flag_number r.marred ∷ own
 
+abbrev pub values_at : (small : List ℕ) → (at : ℕ) → Values
+values_at small at = record { ds = get_or small at 0; dr = get_or small (at + 1) 0 }
+
 -- with DS and DR of each option about output disposition they end; at which place these begin is an end's own
 abbrev pub values_in : (small : List ℕ) → (from : ℕ) → AllValues
 values_in small from = record {
-  naocrd = record { ds = get_or small from 0; dr = get_or small (from + 1) 0 };
-  naolfd = record { ds = get_or small (from + 2) 0; dr = get_or small (from + 3) 0 };
-  naoffd = record { ds = get_or small (from + 4) 0; dr = get_or small (from + 5) 0 };
-  naohtd = record { ds = get_or small (from + 6) 0; dr = get_or small (from + 7) 0 };
+  naocrd = values_at small from;
+  naolfd = values_at small (from + 2);
+  naoffd = values_at small (from + 4);
+  naohtd = values_at small (from + 6);
 }
 
 abbrev pub value_numbers : AllValues → List ℕ

@@ -15,6 +15,7 @@ use Rattle.printer.specs.declared.Printer.{Printer}
 use Rattle.printer.specs.declared.Answer.{Answer}
 use Rattle.session_arrays.specs.declared.Outcome.{Outcome}
 use Rattle.session_arrays.specs.declared.Reported.{Reported}
+use Rattle.session_arrays.specs.declared.printer_arrays.LentPrinterArrays.{LentPrinterArrays}
 use Rattle.session_arrays.specs.Numbers.{flag_number, flag_of, sides_in, reader_in, sides_and_phase, small_of, values_in, value_numbers, reports_in}
 
 -- small: the states of the nine sides, the reader's phase and whether its body is marred, RCTE's hold, the two bits of its
@@ -127,3 +128,21 @@ lent_printer small classes counts body marks cells waiting gathered = record {
   before = arrays_of_printer small.entry.now classes.entry.now counts.entry.now body.entry.now marks.entry.now cells.entry.now waiting.entry.now gathered.entry.now;
   after = arrays_of_printer small.exit.now classes.exit.now counts.exit.now body.exit.now marks.exit.now cells.exit.now waiting.exit.now gathered.exit.now;
 }
+
+-- .. in one struct, as they stand, and as they stood before
+abbrev pub arrays_in : LentPrinterArrays → PrinterArrays
+arrays_in a = arrays_of_printer a.small.now a.classes.now a.counts.now a.body.now a.marks.now a.cells.now a.waiting.now a.gathered.now
+
+abbrev pub lent_between : LentPrinterArrays → LentPrinterArrays → LentPrinter
+lent_between before after = record { before = arrays_in before; after = arrays_in after }
+
+-- the struct still lends what it lent
+pub record SameArrays (before after : LentPrinterArrays) : Type 0 where
+  pub small : after.small.ghost_name ≡ before.small.ghost_name
+  pub classes : after.classes.ghost_name ≡ before.classes.ghost_name
+  pub counts : after.counts.ghost_name ≡ before.counts.ghost_name
+  pub body : after.body.ghost_name ≡ before.body.ghost_name
+  pub marks : after.marks.ghost_name ≡ before.marks.ghost_name
+  pub cells : after.cells.ghost_name ≡ before.cells.ghost_name
+  pub waiting : after.waiting.ghost_name ≡ before.waiting.ghost_name
+  pub gathered : after.gathered.ghost_name ≡ before.gathered.ghost_name

@@ -1,18 +1,20 @@
 -- A run of network bytes at the printer end, on arrays that a host lends.
-use Rattle.std.specs.Prelude.{◌≡◌, Bool, cond, List, ℕ, length, get_or}
+use Rattle.std.specs.Prelude.{◌≡◌, Bool, List, ℕ, length, get_or, Option, Some, None}
 use Rattle.lists.specs.Buffers.{Lent, WroteBothAtStart}
 use Rattle.codes.specs.Answers.{code_number, note_number}
 use Rattle.codes.specs.declared.Code.TheVariants.{Done}
+use Rattle.reader.specs.Numbers.{phase_of}
 use Rattle.reader.specs.NetworkRun.{RunCallEffect}
-use Rattle.printer.specs.State.{Effect}
+use Rattle.printer.specs.declared.Parts.{Parts}
+use Rattle.printer.specs.State.{PrinterState, Effect}
 use Rattle.printer.specs.Stretches.{data_stretch, is_plain_byte}
 use Rattle.printer.specs.InPlace.{InPlaceEffect, in_place_read, table_in}
 use Rattle.printer.specs.Refinement.{view_printer, CleanPrinter}
-use Rattle.session_arrays.specs.declared.ByteOutcome.{ByteOutcome}
-use Rattle.session_arrays.specs.declared.InPlaceOutcome.{InPlaceOutcome}
+use Rattle.reader.specs.declared.network_runs.ByteOutcome.{ByteOutcome}
 use Rattle.session_arrays.specs.declared.RunOutcome.{RunOutcome}
-use Rattle.session_arrays.specs.Numbers.{flag_of, sides_in, phase_of}
-use Rattle.session_arrays.specs.PrinterArrays.{PrinterArrays, decoded_printer, encoded_printer, small_in_place, LentPrinter}
+use Rattle.session_arrays.specs.Numbers.{flag_of, sides_in}
+use Rattle.session_arrays.specs.declared.printer_arrays.LentPrinterArrays.{LentPrinterArrays}
+use Rattle.session_arrays.specs.PrinterArrays.{PrinterArrays, decoded_printer, encoded_printer, LentPrinter, arrays_in, SameArrays}
 
 -- the arrays as a session leaves them: nothing stands in unused cells, and each part has the number that is stored for it
 pub record SoundPrinter (a : PrinterArrays) : Type 0 where
@@ -40,6 +42,10 @@ pub record RefinesRunOutcomeOnPrinterArrays (a : RunCallEffect Effect) (arrays :
 abbrev pub RefinesRunOnPrinterArrays : (ℕ → ℕ → RunCallEffect Effect) → LentPrinter → Lent → Lent → RunOutcome → Type 0
 RefinesRunOnPrinterArrays rule arrays paper wire r = RefinesRunOutcomeOnPrinterArrays (rule (length paper.before) (length wire.before)) arrays paper wire r
 
+-- what says how a byte is read, in the small parts
+abbrev pub parts_in : List ℕ → Parts
+parts_in small = record { sides = sides_in small; phase = phase_of (get_or small 9 0); held = flag_of (get_or small 11 0) }
+
 -- how many bytes at the front are plain, by the parts that this takes
 abbrev pub stretch_in : (small marks bytes : List ℕ) → ℕ
 stretch_in small marks bytes = data_stretch (sides_in small) (phase_of (get_or small 9 0)) (flag_of (get_or small 11 0)) marks bytes
@@ -52,8 +58,15 @@ is_plain_in small marks b = is_plain_byte (sides_in small) (phase_of (get_or sma
 abbrev pub in_place_in : (small marks cells : List ℕ) → ℕ → InPlaceEffect
 in_place_in small marks cells b = in_place_read (sides_in small) (phase_of (get_or small 9 0)) (flag_of (get_or small 11 0)) (table_in marks cells) b
 
--- .. its option states and phase are stored if it is handled, else the small parts stay as they were
-pub record RefinesStoredInPlace (e : InPlaceEffect) (small paper wire : Lent) (r : InPlaceOutcome) : Type 0 where
-  pub handled : r.handled ≡ e.handled
-  pub wrote : WroteBothAtStart e.paper e.wire paper wire r.first r.wire
-  pub stored : small.after ≡ cond e.handled (small_in_place small.before e.sides e.phase) small.before
+-- .. by the code: done is read, and otherwise the arrays and the buffers are as they were
+abbrev pub ReadsInPlace : Effect → LentPrinter → (paper wire : Lent) → Option ByteOutcome → Type 0
+ReadsInPlace d arrays paper wire (Some r) = RefinesByteOnPrinterArrays d arrays paper wire r
+ReadsInPlace d arrays paper wire None = (arrays.after ≡ arrays.before) × (paper.after ≡ paper.before) × (wire.after ≡ wire.before)
+
+-- the struct of arrays as it reads runs: the state that it stands for, and what bytes keep of it besides
+abbrev pub view_lent : LentPrinterArrays → PrinterState
+view_lent a = view_printer (decoded_printer (arrays_in a))
+
+pub record Keeps (s t : LentPrinterArrays) : Type 0 where
+  pub sound : SoundPrinter (arrays_in s) → SoundPrinter (arrays_in t)
+  pub same_arrays : SameArrays s t

@@ -8,8 +8,6 @@ pub mod numbers;
 pub mod printer_arrays;
 pub mod printer_runs;
 
-use codes::Note;
-
 // An answer in numbers: the code, the note, how many bytes went to the paper or the host, and how many to the wire.
 #[repr(C)]
 #[derive(Clone, Copy)]
@@ -56,34 +54,4 @@ pub struct StandingNumbers {
     pub status: u8,
     pub kept: u16,
     pub present: u16,
-}
-
-// The numbers of the nine sides' states.
-#[derive(Clone, Copy)]
-pub struct SideNumbers {
-    pub echo: u8,
-    pub sga: u8,
-    pub rcte: u8,
-    pub bm: u8,
-    pub printersga: u8,
-    pub naocrd: u8,
-    pub naolfd: u8,
-    pub naoffd: u8,
-    pub naohtd: u8,
-}
-
-// One byte of a run: its note, and how many bytes went to the paper or the host and to the wire.
-#[derive(Clone, Copy)]
-pub struct ByteOutcome {
-    pub note: Note,
-    pub first: usize,
-    pub wire: usize,
-}
-
-// A byte read in place: whether it is handled, and how many bytes went to the paper or the host and to the wire.
-#[derive(Clone, Copy)]
-pub struct InPlaceOutcome {
-    pub handled: bool,
-    pub first: usize,
-    pub wire: usize,
 }

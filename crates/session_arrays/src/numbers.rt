@@ -1,182 +1,126 @@
-// The parts of a state as numbers and back. Every number decodes.
-ghost use Rattle.std.specs.Prelude.{◌≡◌};
-ghost use Rattle.disposition.specs.Handled.{report_of, reports_of, handlings_in};
-ghost use Rattle.session_arrays.specs.Numbers.{option_state_number, option_state_of, phase_number, phase_of, flag_number, sides_of, side_numbers, reader_from, report_in, reports_in, run_outcome, key_of_pair};
+// The parts of a state as numbers and back, as they stand at either end. Every number decodes.
+ghost use Rattle.std.specs.Prelude.{◌≡◌, ◌+◌, ◌≤◌, get_or};
+ghost use Rattle.disposition.specs.Handled.{report_of, reports_of};
+ghost use Rattle.session_arrays.specs.Numbers.{sides_in, sides_and_phase, values_at, values_in, value_numbers, reader_from, report_in, reports_in, run_outcome, key_of_pair};
 
-use crate::{Handler, Reported, RunOutcome, SideNumbers};
-use codes::{Code, Note, Verb};
-use disposition::{AllValues, Handling};
+use crate::{Handler, Reported, RunOutcome};
+use codes::{Code, Each, Note};
+use disposition::{AllValues, Handling, Handlings, Values};
 use keys::Key;
-use negotiation::{DispositionStates, OptionState, Sides};
+use negotiation::Sides;
 use reader::{BODY_ROOM, Phase, Reader};
 
-pub fn option_state_number(q: OptionState) -> u8
-    ensures { result ≡ option_state_number q }
+// The states of the nine sides, with which the small parts begin.
+pub fn sides_in<const N: usize>(small: &[u8; N]) -> Sides
+    requires { 9 ≤ N }
+    ensures { result ≡ sides_in small.now }
 {
-    match q {
-        OptionState::No => 0,
-        OptionState::Yes => 1,
-        OptionState::WantNo => 2,
-        OptionState::WantNoOpposite => 3,
-        OptionState::WantYes => 4,
-        OptionState::WantYesOpposite => 5,
-    }
-}
-
-pub fn option_state_of(n: u8) -> OptionState
-    ensures { result ≡ option_state_of n }
-{
-    match n {
-        1 => OptionState::Yes,
-        2 => OptionState::WantNo,
-        3 => OptionState::WantNoOpposite,
-        4 => OptionState::WantYes,
-        5 => OptionState::WantYesOpposite,
-        _ => OptionState::No,
-    }
-}
-
-// The phases behind a verb.
-fn verb_phase(v: Verb) -> u8
-    ensures { result ≡ phase_number (Phase.AfterVerb v) }
-{
-    match v {
-        Verb::Will => 2,
-        Verb::Wont => 3,
-        Verb::Do => 4,
-        Verb::Dont => 5,
-    }
-}
-
-pub fn phase_number(p: Phase) -> u8
-    ensures { result ≡ phase_number p }
-{
-    match p {
-        Phase::Between => 0,
-        Phase::AfterIac => 1,
-        Phase::AfterVerb(v) => verb_phase(v),
-        Phase::InBody => 6,
-        Phase::InBodyAfterIac => 7,
-    }
-}
-
-pub fn phase_of(n: u8) -> Phase
-    ensures { result ≡ phase_of n }
-{
-    match n {
-        1 => Phase::AfterIac,
-        2 => Phase::AfterVerb(Verb::Will),
-        3 => Phase::AfterVerb(Verb::Wont),
-        4 => Phase::AfterVerb(Verb::Do),
-        5 => Phase::AfterVerb(Verb::Dont),
-        6 => Phase::InBody,
-        7 => Phase::InBodyAfterIac,
-        _ => Phase::Between,
-    }
-}
-
-pub fn flag_number(b: bool) -> u8
-    ensures { result ≡ flag_number b }
-{
-    if b { 1 } else { 0 }
-}
-
-fn dispositions_of(n: SideNumbers) -> DispositionStates
-    ensures { result ≡ (sides_of n).dispositions }
-{
-    let naocrd = option_state_of(n.naocrd);
-    let naolfd = option_state_of(n.naolfd);
-    let naoffd = option_state_of(n.naoffd);
-    let naohtd = option_state_of(n.naohtd);
-    DispositionStates {
-        naocrd,
-        naolfd,
-        naoffd,
-        naohtd,
-    }
-}
-
-// The states of the nine sides from their numbers.
-pub fn sides_of(n: SideNumbers) -> Sides
-    ensures { result ≡ sides_of n }
-{
-    let echo = option_state_of(n.echo);
-    let sga = option_state_of(n.sga);
-    let rcte = option_state_of(n.rcte);
-    let bm = option_state_of(n.bm);
-    let printersga = option_state_of(n.printersga);
-    let dispositions = dispositions_of(n);
     Sides {
-        echo,
-        sga,
-        rcte,
-        bm,
-        printersga,
-        dispositions,
+        echo: small[0].into(),
+        sga: small[1].into(),
+        rcte: small[2].into(),
+        bm: small[3].into(),
+        printersga: small[4].into(),
+        dispositions: Each {
+            naocrd: small[5].into(),
+            naolfd: small[6].into(),
+            naoffd: small[7].into(),
+            naohtd: small[8].into(),
+        },
     }
 }
 
-pub fn side_numbers(s: Sides) -> SideNumbers
-    ensures { result ≡ side_numbers s }
+// Their numbers, and that of the reader's phase behind them.
+pub fn sides_and_phase(sides: Sides, phase: Phase) -> [u8; 10]
+    ensures { result ≡ sides_and_phase sides phase }
 {
-    let echo = s.echo;
-    let sga = s.sga;
-    let rcte = s.rcte;
-    let bm = s.bm;
-    let printersga = s.printersga;
-    let dispositions = s.dispositions;
-    let naocrd = dispositions.naocrd;
-    let naolfd = dispositions.naolfd;
-    let naoffd = dispositions.naoffd;
-    let naohtd = dispositions.naohtd;
-    SideNumbers {
-        echo: option_state_number(echo),
-        sga: option_state_number(sga),
-        rcte: option_state_number(rcte),
-        bm: option_state_number(bm),
-        printersga: option_state_number(printersga),
-        naocrd: option_state_number(naocrd),
-        naolfd: option_state_number(naolfd),
-        naoffd: option_state_number(naoffd),
-        naohtd: option_state_number(naohtd),
-    }
+    let disposes = sides.dispositions;
+    [
+        sides.echo.into(),
+        sides.sga.into(),
+        sides.rcte.into(),
+        sides.bm.into(),
+        sides.printersga.into(),
+        disposes.naocrd.into(),
+        disposes.naolfd.into(),
+        disposes.naoffd.into(),
+        disposes.naohtd.into(),
+        phase.into(),
+    ]
 }
 
-pub fn reader_of(phase: u8, marred: u8, len: usize, body: &[u8; BODY_ROOM]) -> Reader
-    ensures { result ≡ reader_from phase marred len body.now }
+// The reader, whose phase stands behind the sides, and whether its body is marred behind that.
+pub fn reader_in<const N: usize>(small: &[u8; N], len: usize, body: &[u8; BODY_ROOM]) -> Reader
+    requires { 11 ≤ N }
+    ensures { result ≡ reader_from (get_or small.now 9 0) (get_or small.now 10 0) len body.now }
 {
-    let phase = phase_of(phase);
     Reader {
-        phase,
-        marred: marred != 0,
+        phase: small[9].into(),
+        marred: small[10] != 0,
         body: *body,
         len,
     }
 }
 
-fn handler_of(h: Handling) -> Handler
-    ensures { report_in result ≡ report_of h }
+fn values_at<const N: usize>(small: &[u8; N], at: usize) -> Values
+    requires { at + 2 ≤ N }
+    ensures { result ≡ values_at small.now at }
 {
-    Handler {
-        who: disposition::handler_number(h),
-        value: disposition::handling_value(h),
+    Values {
+        ds: small[at],
+        dr: small[at + 1],
     }
 }
 
-// Of each option about output disposition who handles its character and by which value, in numbers.
-pub fn reported(sides: Sides, values: AllValues) -> Reported
-    ensures { reports_in result ≡ reports_of (handlings_in sides values) }
+// The values about output disposition, with which the small parts end.
+pub fn values_in<const N: usize>(small: &[u8; N], from: usize) -> AllValues
+    requires { from + 8 ≤ N }
+    ensures { result ≡ values_in small.now from }
 {
-    let h = disposition::handlings_in(sides, values);
-    let naocrd = h.naocrd;
-    let naolfd = h.naolfd;
-    let naoffd = h.naoffd;
-    let naohtd = h.naohtd;
-    Reported {
-        naocrd: handler_of(naocrd),
-        naolfd: handler_of(naolfd),
-        naoffd: handler_of(naoffd),
-        naohtd: handler_of(naohtd),
+    Each {
+        naocrd: values_at(small, from),
+        naolfd: values_at(small, from + 2),
+        naoffd: values_at(small, from + 4),
+        naohtd: values_at(small, from + 6),
+    }
+}
+
+pub fn value_numbers(v: AllValues) -> [u8; 8]
+    ensures { result ≡ value_numbers v }
+{
+    [
+        v.naocrd.ds,
+        v.naocrd.dr,
+        v.naolfd.ds,
+        v.naolfd.dr,
+        v.naoffd.ds,
+        v.naoffd.dr,
+        v.naohtd.ds,
+        v.naohtd.dr,
+    ]
+}
+
+impl From<Handling> for Handler {
+    ghost from_gives = { λ h n. report_in n ≡ report_of h };
+
+    fn from(h: Handling) -> Handler {
+        Handler {
+            who: disposition::handler_number(h),
+            value: disposition::handling_value(h),
+        }
+    }
+}
+
+impl From<Handlings> for Reported {
+    ghost from_gives = { λ h r. reports_in r ≡ reports_of h };
+
+    fn from(h: Handlings) -> Reported {
+        Reported {
+            naocrd: h.naocrd.into(),
+            naolfd: h.naolfd.into(),
+            naoffd: h.naoffd.into(),
+            naohtd: h.naohtd.into(),
+        }
     }
 }
 
@@ -184,22 +128,23 @@ pub fn run_outcome(code: Code, note: Note, taken: usize, first: usize, wire: usi
     ensures { result ≡ run_outcome code note taken first wire }
 {
     RunOutcome {
-        code: codes::code_number(code) as u32,
-        note: codes::note_number(note) as u32,
+        code: u8::from(code) as u32,
+        note: u8::from(note) as u32,
         taken,
         first,
         wire,
     }
 }
 
-// A key by its kind and its byte. A pair that stands for no key is a Command that every end refuses.
+// A key by its kind and its byte, the numbers by which C has it. A pair that stands for no key is a Command that every end refuses.
+#[tactic(auto, unfolding(crate::specs::Numbers::key_of_pair))]
 pub fn key_of_pair(kind: u8, b: u8) -> Key
     ensures { result ≡ key_of_pair kind b }
 {
-    match kind {
-        0 => Key::Char(b),
-        1 => { if b == 0 { Key::Line } else { Key::Command(0) } }
-        2 => Key::Command(b),
+    match (kind, b) {
+        (0, _) => Key::Char(b),
+        (1, 0) => Key::Line,
+        (2, _) => Key::Command(b),
         _ => Key::Command(0),
     }
 }

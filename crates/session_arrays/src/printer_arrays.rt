@@ -1,235 +1,134 @@
 // The printer end's state in arrays that the host lends: found there, and stored there.
 ghost use Rattle.std.specs.Prelude.{◌≡◌};
-ghost use Rattle.session_arrays.specs.Numbers.{sides_in, values_in};
 ghost use Rattle.session_arrays.specs.PrinterArrays.{
-  arrays_of_printer,
   rcte_in,
   decoded_printer,
   encoded_printer,
   small_of_printer,
   small_in_place,
-  lent_printer,
+  printer_outcome,
+  arrays_in,
+  lent_between,
+  SameArrays,
   KeepsPrinter,
 };
 
-use crate::{Outcome, SideNumbers, numbers};
+use crate::{Outcome, numbers};
 use bodies::Action;
-use disposition::{AllValues, Values};
+use codes::Code;
 use negotiation::Sides;
 use printer::{Answer, Printer};
 use rcte::{GATHER_ROOM, Rcte, WAIT_ROOM};
 use reader::{BODY_ROOM, Phase};
 use received_macros::{ROOM, Texts};
 
-pub fn sides_in(small: &[u8; 22]) -> Sides
-    ensures { result ≡ sides_in small.now }
-{
-    let n = SideNumbers {
-        echo: small[0],
-        sga: small[1],
-        rcte: small[2],
-        bm: small[3],
-        printersga: small[4],
-        naocrd: small[5],
-        naolfd: small[6],
-        naoffd: small[7],
-        naohtd: small[8],
-    };
-    numbers::sides_of(n)
+// The arrays, lent one by one. What stands where is told in `include/prambow.h`.
+#[derive(Drop)]
+pub struct LentPrinterArrays<'a> {
+    pub small: &'a mut [u8; 22],
+    pub classes: &'a mut [u16; 2],
+    pub counts: &'a mut [usize; 3],
+    pub body: &'a mut [u8; BODY_ROOM],
+    pub marks: &'a mut [u16; 256],
+    pub cells: &'a mut [u8; ROOM],
+    pub waiting: &'a mut [u16; WAIT_ROOM],
+    pub gathered: &'a mut [u8; GATHER_ROOM],
 }
 
-pub fn values_in(small: &[u8; 22]) -> AllValues
-    ensures { result ≡ values_in small.now 14 }
-{
-    AllValues {
-        naocrd: Values {
-            ds: small[14],
-            dr: small[15],
-        },
-        naolfd: Values {
-            ds: small[16],
-            dr: small[17],
-        },
-        naoffd: Values {
-            ds: small[18],
-            dr: small[19],
-        },
-        naohtd: Values {
-            ds: small[20],
-            dr: small[21],
-        },
+impl LentPrinterArrays<'_> {
+    fn rcte(&self) -> Rcte
+        ensures { let a = arrays_in self.now in result ≡ rcte_in a.small a.classes a.counts a.waiting a.gathered }
+    {
+        let small = *self.small;
+        let classes = *self.classes;
+        let counts = *self.counts;
+        Rcte {
+            held: small[11] != 0,
+            action: Action {
+                skipbreak: small[12] != 0,
+                skiptext: small[13] != 0,
+            },
+            breaks: classes[0],
+            sends: classes[1],
+            waiting: *self.waiting,
+            count: counts[1],
+            gathered: *self.gathered,
+            filled: counts[2],
+        }
+    }
+
+    pub fn decoded(&self) -> Printer
+        ensures { result ≡ decoded_printer (arrays_in self.now) }
+    {
+        let small = *self.small;
+        let counts = *self.counts;
+        Printer {
+            sides: numbers::sides_in(&small),
+            reader: numbers::reader_in(&small, counts[0], self.body),
+            table: Texts {
+                marks: *self.marks,
+                cells: *self.cells,
+            },
+            rcte: self.rcte(),
+            values: numbers::values_in(&small, 14),
+        }
+    }
+
+    pub fn store(&mut self, s: Printer)
+        ensures stored { arrays_in self.new ≡ encoded_printer s }
+        ensures same_arrays { SameArrays self.old self.new }
+    {
+        self.small.copy_from_slice(&small_of(s));
+        *self.classes = [s.rcte.breaks, s.rcte.sends];
+        *self.counts = [s.reader.len, s.rcte.count, s.rcte.filled];
+        self.body.copy_from_slice(&s.reader.body);
+        self.marks.copy_from_slice(&s.table.marks);
+        self.cells.copy_from_slice(&s.table.cells);
+        self.waiting.copy_from_slice(&s.rcte.waiting);
+        self.gathered.copy_from_slice(&s.rcte.gathered);
+    }
+
+    // A call's answer in numbers; its state is stored if it is done, so that a refusal changes nothing.
+    pub fn kept(&mut self, a: Answer) -> Outcome
+        ensures keeps { KeepsPrinter a (lent_between self.old self.new) result }
+        ensures same_arrays { SameArrays self.old self.new }
+    {
+        if a.code == Code::Done {
+            self.store(a.state);
+        }
+        a.into()
     }
 }
 
-fn rcte_of(
-    small: &[u8; 22],
-    classes: &[u16; 2],
-    counts: &[usize; 3],
-    waiting: &[u16; WAIT_ROOM],
-    gathered: &[u8; GATHER_ROOM],
-) -> Rcte
-    ensures { result ≡ rcte_in small.now classes.now counts.now waiting.now gathered.now }
-{
-    let action = Action {
-        skipbreak: small[12] != 0,
-        skiptext: small[13] != 0,
-    };
-    Rcte {
-        held: small[11] != 0,
-        action,
-        breaks: classes[0],
-        sends: classes[1],
-        waiting: *waiting,
-        count: counts[1],
-        gathered: *gathered,
-        filled: counts[2],
-    }
-}
+impl From<Answer> for Outcome {
+    ghost from_gives = { λ a o. o ≡ printer_outcome a };
 
-pub fn decoded(
-    small: &[u8; 22],
-    classes: &[u16; 2],
-    counts: &[usize; 3],
-    body: &[u8; BODY_ROOM],
-    marks: &[u16; 256],
-    cells: &[u8; ROOM],
-    waiting: &[u16; WAIT_ROOM],
-    gathered: &[u8; GATHER_ROOM],
-) -> Printer
-    ensures { result ≡ decoded_printer (arrays_of_printer small.now classes.now counts.now body.now marks.now cells.now waiting.now gathered.now) }
-{
-    let sides = sides_in(small);
-    let reader = numbers::reader_of(small[9], small[10], counts[0], body);
-    let rcte = rcte_of(small, classes, counts, waiting, gathered);
-    let table = Texts {
-        marks: *marks,
-        cells: *cells,
-    };
-    let values = values_in(small);
-    Printer {
-        sides,
-        reader,
-        table,
-        rcte,
-        values,
+    fn from(a: Answer) -> Outcome {
+        Outcome {
+            code: u8::from(a.code) as u32,
+            note: u8::from(a.note) as u32,
+            first: a.paper,
+            wire: a.wire,
+        }
     }
 }
 
 fn small_of(s: Printer) -> [u8; 22]
     ensures { result ≡ small_of_printer s }
 {
-    let sides = s.sides;
-    let reader = s.reader;
-    let control = s.rcte;
-    let action = control.action;
-    let values = s.values;
-    let n = numbers::side_numbers(sides);
-    let phase = reader.phase;
-    [
-        n.echo,
-        n.sga,
-        n.rcte,
-        n.bm,
-        n.printersga,
-        n.naocrd,
-        n.naolfd,
-        n.naoffd,
-        n.naohtd,
-        numbers::phase_number(phase),
-        numbers::flag_number(reader.marred),
-        numbers::flag_number(control.held),
-        numbers::flag_number(action.skipbreak),
-        numbers::flag_number(action.skiptext),
-        values.naocrd.ds,
-        values.naocrd.dr,
-        values.naolfd.ds,
-        values.naolfd.dr,
-        values.naoffd.ds,
-        values.naoffd.dr,
-        values.naohtd.ds,
-        values.naohtd.dr,
-    ]
+    let mut small = [0; 22];
+    small[..10].copy_from_slice(&numbers::sides_and_phase(s.sides, s.reader.phase));
+    small[10] = s.reader.marred.into();
+    small[11] = s.rcte.held.into();
+    small[12] = s.rcte.action.skipbreak.into();
+    small[13] = s.rcte.action.skiptext.into();
+    small[14..].copy_from_slice(&numbers::value_numbers(s.values));
+    small
 }
 
 // Stores the option states and the reader's phase alone.
 pub fn put_in_place(sides: Sides, phase: Phase, small: &mut [u8; 22])
     ensures { small.new ≡ small_in_place small.old sides phase }
 {
-    let n = numbers::side_numbers(sides);
-    let parts = [
-        n.echo,
-        n.sga,
-        n.rcte,
-        n.bm,
-        n.printersga,
-        n.naocrd,
-        n.naolfd,
-        n.naoffd,
-        n.naohtd,
-        numbers::phase_number(phase),
-    ];
-    wire::put_bytes(&parts, small);
-}
-
-pub fn store(
-    s: Printer,
-    small: &mut [u8; 22],
-    classes: &mut [u16; 2],
-    counts: &mut [usize; 3],
-    body: &mut [u8; BODY_ROOM],
-    marks: &mut [u16; 256],
-    cells: &mut [u8; ROOM],
-    waiting: &mut [u16; WAIT_ROOM],
-    gathered: &mut [u8; GATHER_ROOM],
-)
-    ensures { (lent_printer small classes counts body marks cells waiting gathered).after ≡ encoded_printer s }
-{
-    let small_parts = small_of(s);
-    let reader = s.reader;
-    let table = s.table;
-    let control = s.rcte;
-    let read = reader.body;
-    let of_texts = table.marks;
-    let texts = table.cells;
-    let keys = control.waiting;
-    let unsent = control.gathered;
-    *small = small_parts;
-    *classes = [control.breaks, control.sends];
-    *counts = [reader.len, control.count, control.filled];
-    *body = read;
-    *marks = of_texts;
-    *cells = texts;
-    *waiting = keys;
-    *gathered = unsent;
-}
-
-// A call's answer in numbers; its state is stored if it is done, so that a refusal changes nothing.
-pub fn kept(
-    a: Answer,
-    small: &mut [u8; 22],
-    classes: &mut [u16; 2],
-    counts: &mut [usize; 3],
-    body: &mut [u8; BODY_ROOM],
-    marks: &mut [u16; 256],
-    cells: &mut [u8; ROOM],
-    waiting: &mut [u16; WAIT_ROOM],
-    gathered: &mut [u8; GATHER_ROOM],
-) -> Outcome
-    ensures { KeepsPrinter a (lent_printer small classes counts body marks cells waiting gathered) result }
-{
-    let code = a.code;
-    let note = a.note;
-    let outcome = Outcome {
-        code: codes::code_number(code) as u32,
-        note: codes::note_number(note) as u32,
-        first: a.paper,
-        wire: a.wire,
-    };
-    if codes::is_done(code) {
-        let state = a.state;
-        store(
-            state, small, classes, counts, body, marks, cells, waiting, gathered,
-        );
-    }
-    outcome
+    small[..10].copy_from_slice(&numbers::sides_and_phase(sides, phase));
 }

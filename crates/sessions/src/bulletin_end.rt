@@ -16,123 +16,80 @@ ghost use Rattle.bulletin.specs.Calls.{
   output_now,
 };
 ghost use Rattle.bulletin.specs.Refinement.{view_bulletin};
-ghost use Rattle.sessions.specs.Refinement.{RefinesOnBulletin, RefinesOnBulletinWire};
+ghost use Rattle.sessions.specs.Refinement.{RefinesOnBulletin, RefinesOnBulletinWire, bulletin_answer};
 
 use crate::BulletinOutcome;
-use bulletin::{Bulletin, Output, Standing, calls};
+use bulletin::{Answer, Bulletin, Output, Standing, calls};
 use disposition::Handlings;
 use keys::Key;
 
-pub fn network_byte(s: &mut Bulletin, b: u8, host: &mut [u8], wire: &mut [u8]) -> BulletinOutcome
-    ensures { RefinesOnBulletin (λ t. network_call t b) s (lent host) (lent wire) result }
+// What a call answers by value, its state put into the record.
+fn kept(s: &mut Bulletin, a: Answer) -> BulletinOutcome
+    ensures { bulletin_answer result s.new ≡ a }
 {
-    let a = calls::network_byte(*s, b, host, wire);
-    let state = a.state;
-    *s = state;
+    *s = a.state;
     BulletinOutcome {
         code: a.code,
         note: a.note,
         host: a.host,
         wire: a.wire,
     }
+}
+
+pub fn network_byte(s: &mut Bulletin, b: u8, host: &mut [u8], wire: &mut [u8]) -> BulletinOutcome
+    ensures { RefinesOnBulletin (λ t. network_call t b) s (lent host) (lent wire) result }
+{
+    let a = calls::network_byte(*s, b, host, wire);
+    kept(s, a)
 }
 
 pub fn ask(s: &mut Bulletin, option: u8, way: u8, wire: &mut [u8]) -> BulletinOutcome
     ensures { RefinesOnBulletinWire (λ t. ask_call t option way) s (lent wire) result }
 {
     let a = calls::ask(*s, option, way, wire);
-    let state = a.state;
-    *s = state;
-    BulletinOutcome {
-        code: a.code,
-        note: a.note,
-        host: a.host,
-        wire: a.wire,
-    }
+    kept(s, a)
 }
 
 pub fn suggest(s: &mut Bulletin, option: u8, v: u8, wire: &mut [u8]) -> BulletinOutcome
     ensures { RefinesOnBulletinWire (λ t. suggest_call t option v) s (lent wire) result }
 {
     let a = calls::suggest(*s, option, v, wire);
-    let state = a.state;
-    *s = state;
-    BulletinOutcome {
-        code: a.code,
-        note: a.note,
-        host: a.host,
-        wire: a.wire,
-    }
+    kept(s, a)
 }
 
 pub fn order(s: &mut Bulletin, cmd: u8, breaks: u16, sends: u16, wire: &mut [u8]) -> BulletinOutcome
     ensures { RefinesOnBulletinWire (λ t. order_call t cmd breaks sends) s (lent wire) result }
 {
     let a = calls::order(*s, cmd, breaks, sends, wire);
-    let state = a.state;
-    *s = state;
-    BulletinOutcome {
-        code: a.code,
-        note: a.note,
-        host: a.host,
-        wire: a.wire,
-    }
+    kept(s, a)
 }
 
 pub fn define(s: &mut Bulletin, x: u8, text: &[u8], wire: &mut [u8]) -> BulletinOutcome
     ensures { RefinesOnBulletinWire (λ t. define_call t x text.now) s (lent wire) result }
 {
     let a = calls::define(*s, x, text, wire);
-    let state = a.state;
-    *s = state;
-    BulletinOutcome {
-        code: a.code,
-        note: a.note,
-        host: a.host,
-        wire: a.wire,
-    }
+    kept(s, a)
 }
 
 pub fn use_macro(s: &mut Bulletin, x: u8, wire: &mut [u8]) -> BulletinOutcome
     ensures { RefinesOnBulletinWire (λ t. use_call t x) s (lent wire) result }
 {
     let a = calls::use_macro(*s, x, wire);
-    let state = a.state;
-    *s = state;
-    BulletinOutcome {
-        code: a.code,
-        note: a.note,
-        host: a.host,
-        wire: a.wire,
-    }
+    kept(s, a)
 }
 
 pub fn text_item(s: &mut Bulletin, k: Key, wire: &mut [u8]) -> BulletinOutcome
     ensures { RefinesOnBulletinWire (λ t. text_call t k) s (lent wire) result }
 {
     let a = calls::text_item(*s, k, wire);
-    let state = a.state;
-    *s = state;
-    BulletinOutcome {
-        code: a.code,
-        note: a.note,
-        host: a.host,
-        wire: a.wire,
-    }
+    kept(s, a)
 }
 
 pub fn issue(s: &mut Bulletin, n: u16, wire: &mut [u8]) -> BulletinOutcome
     ensures { RefinesOnBulletinWire (λ t. issue_call t n) s (lent wire) result }
 {
     let a = calls::issue(*s, n, wire);
-    let state = a.state;
-    *s = state;
-    BulletinOutcome {
-        code: a.code,
-        note: a.note,
-        host: a.host,
-        wire: a.wire,
-    }
+    kept(s, a)
 }
 
 // How the last DEFINE of a byte stands, and the issue that it kept.

@@ -2,7 +2,12 @@
 // that it returns. The modules `recorded_..` make such a record, lend it to these calls and answer by value.
 #![tactic(auto)]
 
+ghost use Rattle.std.specs.Prelude.{◌≡◌};
+ghost use Rattle.sessions.specs.Refinement.{printer_answer, bulletin_answer};
+
+use bulletin::Bulletin;
 use codes::{Code, Note};
+use printer::Printer;
 
 pub mod bulletin_end;
 pub mod printer_end;
@@ -18,6 +23,21 @@ pub struct PrinterOutcome {
     pub wire: usize,
 }
 
+impl PrinterOutcome {
+    // The answer by value: the outcome with the state that the record holds.
+    fn with(self, state: Printer) -> printer::Answer
+        ensures { result ≡ printer_answer self state }
+    {
+        printer::Answer {
+            code: self.code,
+            note: self.note,
+            paper: self.paper,
+            wire: self.wire,
+            state,
+        }
+    }
+}
+
 // The same of the bulletin end.
 #[derive(Clone, Copy)]
 pub struct BulletinOutcome {
@@ -25,4 +45,19 @@ pub struct BulletinOutcome {
     pub note: Note,
     pub host: usize,
     pub wire: usize,
+}
+
+impl BulletinOutcome {
+    // The answer by value: the outcome with the state that the record holds.
+    fn with(self, state: Bulletin) -> bulletin::Answer
+        ensures { result ≡ bulletin_answer self state }
+    {
+        bulletin::Answer {
+            code: self.code,
+            note: self.note,
+            host: self.host,
+            wire: self.wire,
+            state,
+        }
+    }
 }

@@ -6,19 +6,18 @@ ghost use Rattle.lists.specs.Buffers.{lent};
 ghost use Rattle.disposition.specs.Handled.{reports_of};
 ghost use Rattle.printer.specs.Calls.{network_call, key_call, ask_call, suggest_call, dispositions_report};
 ghost use Rattle.printer.specs.Refinement.{view_printer};
-ghost use Rattle.sessions.specs.Refinement.{RefinesOnPrinter};
+ghost use Rattle.sessions.specs.Refinement.{RefinesOnPrinter, printer_answer};
 
 use crate::PrinterOutcome;
 use disposition::Handlings;
 use keys::Key;
-use printer::{Printer, calls};
+use printer::{Answer, Printer, calls};
 
-pub fn network_byte(s: &mut Printer, b: u8, paper: &mut [u8], wire: &mut [u8]) -> PrinterOutcome
-    ensures { RefinesOnPrinter (λ t. network_call t b) s (lent paper) (lent wire) result }
+// What a call answers by value, its state put into the record.
+fn kept(s: &mut Printer, a: Answer) -> PrinterOutcome
+    ensures { printer_answer result s.new ≡ a }
 {
-    let a = calls::network_byte(*s, b, paper, wire);
-    let state = a.state;
-    *s = state;
+    *s = a.state;
     PrinterOutcome {
         code: a.code,
         note: a.note,
@@ -27,18 +26,18 @@ pub fn network_byte(s: &mut Printer, b: u8, paper: &mut [u8], wire: &mut [u8]) -
     }
 }
 
+pub fn network_byte(s: &mut Printer, b: u8, paper: &mut [u8], wire: &mut [u8]) -> PrinterOutcome
+    ensures { RefinesOnPrinter (λ t. network_call t b) s (lent paper) (lent wire) result }
+{
+    let a = calls::network_byte(*s, b, paper, wire);
+    kept(s, a)
+}
+
 pub fn press(s: &mut Printer, k: Key, paper: &mut [u8], wire: &mut [u8]) -> PrinterOutcome
     ensures { RefinesOnPrinter (λ t. key_call t k) s (lent paper) (lent wire) result }
 {
     let a = calls::press(*s, k, paper, wire);
-    let state = a.state;
-    *s = state;
-    PrinterOutcome {
-        code: a.code,
-        note: a.note,
-        paper: a.paper,
-        wire: a.wire,
-    }
+    kept(s, a)
 }
 
 pub fn ask(
@@ -51,14 +50,7 @@ pub fn ask(
     ensures { RefinesOnPrinter (λ t. ask_call t option way) s (lent paper) (lent wire) result }
 {
     let a = calls::ask(*s, option, way, paper, wire);
-    let state = a.state;
-    *s = state;
-    PrinterOutcome {
-        code: a.code,
-        note: a.note,
-        paper: a.paper,
-        wire: a.wire,
-    }
+    kept(s, a)
 }
 
 pub fn suggest(
@@ -71,14 +63,7 @@ pub fn suggest(
     ensures { RefinesOnPrinter (λ t. suggest_call t option v) s (lent paper) (lent wire) result }
 {
     let a = calls::suggest(*s, option, v, paper, wire);
-    let state = a.state;
-    *s = state;
-    PrinterOutcome {
-        code: a.code,
-        note: a.note,
-        paper: a.paper,
-        wire: a.wire,
-    }
+    kept(s, a)
 }
 
 // Of each option about output disposition who handles its character, and how.

@@ -8,30 +8,16 @@ use crate::printer_end;
 use keys::Key;
 use printer::{Answer, Printer};
 
-pub fn network_byte(s: Printer, b: u8, paper: &mut [u8], wire: &mut [u8]) -> Answer
+pub fn network_byte(mut s: Printer, b: u8, paper: &mut [u8], wire: &mut [u8]) -> Answer
     ensures { RefinesAnswer (network_call (view_printer s) b) s (lent paper) (lent wire) result }
 {
-    let mut record = s;
-    let o = printer_end::network_byte(&mut record, b, paper, wire);
-    Answer {
-        code: o.code,
-        note: o.note,
-        paper: o.paper,
-        wire: o.wire,
-        state: record,
-    }
+    let o = printer_end::network_byte(&mut s, b, paper, wire);
+    o.with(s)
 }
 
-pub fn press(s: Printer, k: Key, paper: &mut [u8], wire: &mut [u8]) -> Answer
+pub fn press(mut s: Printer, k: Key, paper: &mut [u8], wire: &mut [u8]) -> Answer
     ensures { RefinesAnswer (key_call (view_printer s) k) s (lent paper) (lent wire) result }
 {
-    let mut record = s;
-    let o = printer_end::press(&mut record, k, paper, wire);
-    Answer {
-        code: o.code,
-        note: o.note,
-        paper: o.paper,
-        wire: o.wire,
-        state: record,
-    }
+    let o = printer_end::press(&mut s, k, paper, wire);
+    o.with(s)
 }

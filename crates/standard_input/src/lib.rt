@@ -6,7 +6,8 @@ ghost use Rattle.streams.specs.Counts.{IsPrefixLen};
 use std::io;
 use std::io::Read;
 
-// How many bytes stand at the start of the buffer, and why a read failed behind them, if one did.
+// How many bytes stand at the start of the buffer, and why a read failed behind them, if one did. No Result: what came before
+// a failure is told too.
 #[derive(Clone, Copy)]
 pub struct Input {
     pub len: usize,

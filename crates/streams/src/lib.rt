@@ -10,7 +10,7 @@ use std::fs::{File, Files};
 use std::io::{Cursor, Print, Read, Write};
 use std::{io, str};
 
-// The system's numbers of the errors for which a name is refused.
+// The system's numbers of the errors for which a name is refused: `fail` prints the system's texts for them.
 const INVALID: i32 = 22;
 
 const NAME_TOO_LONG: i32 = 36;
@@ -19,31 +19,51 @@ const NOT_UTF_8: i32 = 84;
 
 // How many arguments the program was started with, its own name among them.
 pub fn arg_count(rt: &impl Env) -> usize {
-    for i in 0..usize::MAX {
-        match rt.arg(i, &mut []) {
-            Err(FillError::NotPresent) => return i,
-            _ => {}
-        }
-    }
-    usize::MAX
+    let is_missing = |i: &usize| matches!(rt.arg(*i, &mut []), Err(FillError::NotPresent));
+    (0..usize::MAX).find(is_missing).unwrap_or(usize::MAX)
 }
 
 // Puts an argument at the start of the buffer, and returns its length.
 pub fn arg(rt: &impl Env, i: usize, buffer: &mut [u8]) -> io::Result<usize>
     ensures { ReadsAtMost result buffer.new }
 {
-    match rt.arg(i, buffer) {
-        Ok(n) => Ok(n),
-        Err(FillError::NotPresent) => Err(io::Error::from_raw_os_error(INVALID)),
-        Err(FillError::TooLong) => Err(io::Error::from_raw_os_error(NAME_TOO_LONG)),
-    }
+    rt.arg(i, buffer).map_err(|error| {
+        io::Error::from_raw_os_error(match error {
+            FillError::NotPresent => INVALID,
+            FillError::TooLong => NAME_TOO_LONG,
+        })
+    })
 }
 
 // Opens the file of that name for reading. A name that is not UTF-8 is refused.
 pub fn open_read<R: Files>(rt: &R, path: &[u8]) -> io::Result<R::File> {
-    match str::from_utf8(path) {
-        Ok(text) => File::open(rt, text),
-        Err(_) => Err(io::Error::from_raw_os_error(NOT_UTF_8)),
+    let Ok(text) = str::from_utf8(path) else {
+        return Err(io::Error::from_raw_os_error(NOT_UTF_8));
+    };
+    File::open(rt, text)
+}
+
+// Opens the file that an argument names; the name comes with it, and stands at the start of the buffer. What fails is told.
+pub fn open_named<'a, R: Env + Files>(
+    rt: &R,
+    errors: &impl Print,
+    i: usize,
+    room: &'a mut [u8],
+) -> Option<(&'a [u8], R::File)> {
+    let n = match arg(rt, i, room) {
+        Ok(n) => n,
+        Err(error) => {
+            fail(errors, b"an argument", error);
+            return None;
+        }
+    };
+    let path = &room[..n];
+    match open_read(rt, path) {
+        Ok(file) => Some((path, file)),
+        Err(error) => {
+            fail(errors, path, error);
+            None
+        }
     }
 }
 
@@ -51,40 +71,33 @@ pub fn open_read<R: Files>(rt: &R, path: &[u8]) -> io::Result<R::File> {
 pub fn read_full<R: Read>(reader: &mut R, buffer: &mut [u8]) -> usize
     ensures { IsPrefixLen result buffer.new }
 {
-    let mut done: usize = 0;
+    // The step is what a read gave, so there is nothing that a `for` could go over.
+    let mut done = 0;
     while done < buffer.len() {
         match reader.read(&mut buffer[done..]) {
-            Ok(0) => return done,
+            Ok(0) | Err(_) => break,
             Ok(n) => done += n,
-            Err(_) => return done,
         }
     }
     done
 }
 
 // The system's text for an error, without its number.
-fn text_of(error: io::Error, room: &mut [u8]) -> usize
-    ensures { IsPrefixLen result room.new }
-{
+fn text_of(error: io::Error, room: &mut [u8]) -> &str {
     let mut cursor = Cursor::new(&mut *room);
     let _ = write!(cursor, "{error}");
-    let n = cursor.position() as usize;
-    let end = n.min(room.len());
-    match str::from_utf8(&room[..end]) {
-        Ok(text) => match text.find(" (os error ") {
-            Some(at) => at.min(end),
-            None => end,
-        },
-        Err(_) => 0,
-    }
+    let written = cursor.position() as usize;
+    let end = written.min(room.len());
+    let text = str::from_utf8(&room[..end]).unwrap_or("");
+    text.split_once(" (os error ")
+        .map_or(text, |(front, _)| front)
 }
 
 // Writes a line: what failed, as the caller names it, a colon and the error's text.
 pub fn fail(to: &impl Print, what: &[u8], error: io::Error) {
-    let mut text = [0u8; 128];
-    let n = text_of(error, &mut text);
-    let _ = to.write_all(what);
-    let _ = to.write_all(b": ");
-    let _ = to.write_all(&text[..n]);
-    let _ = to.write_all(b"\n");
+    let mut room = [0u8; 128];
+    let text = text_of(error, &mut room).as_bytes();
+    for part in [what, b": ", text, b"\n"] {
+        let _ = to.write_all(part);
+    }
 }

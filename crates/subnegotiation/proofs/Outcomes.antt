@@ -16,13 +16,14 @@ use Rattle.negotiation.specs.declared.Sides.{Sides}
 use Rattle.negotiation.specs.Table.{is_yes}
 use Rattle.negotiation.specs.Carried.{macros_in_force, disposition_in_force}
 use Rattle.reader.specs.Reading.{by_option}
-use Rattle.subnegotiation.specs.declared.Checked.{Checked}
-use Rattle.subnegotiation.specs.declared.Checked.TheVariants.{Noted, Rcte, Disposes, Macro}
-use Rattle.subnegotiation.specs.Checks.{reads_rcte, in_force, option_checked, checked}
+use Rattle.std.specs.Prelude.{Ok, Err}
+use Rattle.subnegotiation.specs.declared.Subject.{Subject}
+use Rattle.subnegotiation.specs.declared.Subject.TheVariants.{Rcte, Disposes, Macro}
+use Rattle.subnegotiation.specs.Checks.{Checked, reads_rcte, in_force, option_checked, checked}
 
-module _ (P : Checked → Type 0) (end : End) (s : Sides) (noted : (n : Note) → P (Noted n)) (rcte : is_yes s.rcte ≡ true → P Rcte)
-    (disposes : (d : Disposition) → disposition_in_force s d ≡ true → P (Disposes d)) (macro : macros_in_force end s ≡ true → P Macro) where
-  while_on : (on : Bool) {c : Checked} → (on ≡ true → P c) → P (in_force on c)
+module _ (P : Checked → Type 0) (end : End) (s : Sides) (noted : (n : Note) → P (Err n)) (rcte : is_yes s.rcte ≡ true → P (Ok Rcte))
+    (disposes : (d : Disposition) → disposition_in_force s d ≡ true → P (Ok (Disposes d))) (macro : macros_in_force end s ≡ true → P (Ok Macro)) where
+  while_on : (on : Bool) {x : Subject} → (on ≡ true → P (Ok x)) → P (in_force on x)
   while_on on f = chosen P on f (λ e. noted Inactive)
 
   pub checked_cases : (marred : Bool) (body : List ℕ) → P (checked end s marred body)

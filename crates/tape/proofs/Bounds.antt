@@ -6,14 +6,10 @@ use lib.ListN.{length, length-append}
 use Rattle.lists.proofs.Lengths.{either, flat_map_within}
 use Rattle.codes.specs.Answers.{paper_room, wire_room}
 use Rattle.tape.specs.Lines.{hex_byte, hex_of, shows_nothing, shown}
-use Rattle.tape.specs.Refinement.Parts.{number_then, hex_then}
+use Rattle.tape.specs.Refinement.Parts.{hex_then}
 use Rattle.tape.specs.Whole.{line_room, LineFits, ShownFits, BadFits}
-use Rattle.tape.proofs.Digits.{at_most}
+use Rattle.decimals.proofs.Digits.{number_length}
 use Rattle.tape.proofs.LineParts.{line_parts, bad_parts}
-
-number_length : (n then : ℕ) → length (number_then n then) ≤ 6
-unfolding number_then
-number_length n then = simp length-append (omega (arith, at_most 5 n))
 
 hex_two : (b : ℕ) → length (hex_byte b) ≤ 2
 unfolding hex_byte

@@ -5,34 +5,27 @@ use Prim.Native.Nat.{ℕ, zero, suc, ◌+◌, ◌≤◌, ◌<◌}
 use native.Mathlib.Nat.{suc-add}
 use native.Mathlib.Numerals.{add-one}
 use native.Mathlib.Omega.{arith}
-use lib.Dec.{leb}
 use lib.ListN.{length}
-use mathlib.Core.Bool.{◌&&◌}
-use Rattle.lists.proofs.Lengths.{either}
-use Rattle.tape.specs.declared.Found.{Found}
-use Rattle.tape.specs.declared.Found.TheVariants.{Field, End, Bad}
-use Rattle.tape.specs.Fields.{tag_at, size_at, is_known, is_whole, found_at, part_of, Scanned, field_then, fields_from, fields_at}
+use Rattle.std.specs.Prelude.{Some, None, Ok, Err}
+use Rattle.tape.specs.Fields.{Found, found_at, part_of, Scanned, field_then, fields_from, fields_at}
 use Rattle.tape.specs.Whole.{NoFieldLeftOut}
-use Rattle.tape.proofs.Heads.{at_end}
+use Rattle.tape.proofs.Heads.{at_end, found_is}
 
 -- a field that is found ends past the place where it stands
 abbrev Past : ℕ → Found → Type 0
-Past at End = Unit {0}
-Past at Bad = Unit {0}
-Past at (Field tag start size cursor) = at < cursor.at
+Past at (Ok None) = Unit {0}
+Past at (Err e) = Unit {0}
+Past at (Ok (Some f)) = at < f.next.at
 
 goes_on : (tape : List ℕ) (at : ℕ) → Past at (found_at tape at)
-unfolding found_at
-goes_on tape at =
-    either (Past at) (leb (length tape) at) tt
-    (either (Past at) (is_whole tape at && is_known (tag_at tape at) (size_at tape at)) (omega arith) tt)
+goes_on tape at = found_is tape at (Past at) tt (λ _. tt) (λ tag _. omega arith)
 
 same_behind : (tape : List ℕ) (at : ℕ) (f : Found) (next other : ℕ → List Scanned) → Past at f
     → ((place : ℕ) → at < place → next place ≡ other place) → field_then tape f next ≡ field_then tape f other
-same_behind tape at End next other p same = refl
-same_behind tape at Bad next other p same = refl
-same_behind tape at (Field tag start size cursor) next other p same =
-    ap (λ (ss : List Scanned). record { found = Field tag start size cursor; body = part_of tape start size } ∷ ss) (same cursor.at p)
+same_behind tape at (Ok None) next other p same = refl
+same_behind tape at (Err e) next other p same = refl
+same_behind tape at (Ok (Some f)) next other p same =
+    ap (λ (ss : List Scanned). record { found = Ok (Some f); body = part_of tape f.start f.size } ∷ ss) (same f.next.at p)
 
 enough : (n more : ℕ) (tape : List ℕ) (at : ℕ) → length tape ≤ at + n → fields_from (suc n + more) tape at ≡ fields_from (suc n) tape at
 unfolding fields_from

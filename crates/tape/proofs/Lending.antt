@@ -8,23 +8,22 @@ use borrow.Author.Tests.{le-ltb}
 use Rattle.lists.proofs.Lengths.{either}
 use Rattle.codes.specs.Answers.{code_number, paper_room, wire_room, no_room, Guard, refused_if, guarded}
 use Rattle.codes.specs.declared.Code.{Code}
-use Rattle.codes.specs.declared.Code.TheVariants.{NoRoom}
+use Rattle.codes.specs.declared.Code.TheVariants.{NoRoom, AlreadySo}
 use Rattle.keys.specs.declared.Key.{Key}
 use Rattle.printer.specs.State.{PrinterState, CallEffect, done, refused}
 use Rattle.codes.specs.declared.Whose.{Whose}
 use Rattle.codes.proofs.Guards.{guarded_passed}
 use Rattle.negotiation.specs.declared.End.{End}
 use Rattle.negotiation.specs.declared.Side.{Side}
-use Rattle.negotiation.specs.declared.Asked.{Asked}
-use Rattle.negotiation.specs.declared.Asked.TheVariants.{Already, Moves}
-use Rattle.negotiation.specs.declared.Asking.{Asking}
+use Rattle.std.specs.Prelude.{Option, Some, None, Result, ok_or}
+use Rattle.negotiation.specs.declared.Move.{Move}
 use Rattle.negotiation.specs.Table.{asked, is_already}
-use Rattle.negotiation.specs.Carried.{is_carried, state_of, clashes, reply_bytes, asked_whose, asked_side, asked_enable, as_moves, asking_of, asked_by}
+use Rattle.negotiation.specs.Carried.{is_carried, state_of, clashes, reply_bytes, asked_whose, asked_side, asked_enable, asking_of, asked_by}
 use Rattle.printer.specs.Network.{network_read, moved_with_reply}
 use Rattle.printer.specs.Calls.{network_call, key_typed, key_call, ask_of, ask_call}
-use Rattle.tape.specs.Fields.{Item, network_byte, key_pair, ask_pair}
-use Rattle.tape.specs.declared.Pair.{Pair}
-use Rattle.tape.specs.declared.Pair.TheVariants.{Typed, Other}
+use Rattle.std.specs.Prelude.{Option, Some, None}
+use Rattle.tape.specs.declared.Item.{Item}
+use Rattle.tape.specs.declared.Item.TheVariants.{NetworkByte, KeyPair, AskPair}
 use Rattle.tape.specs.Running.{programs, with_room, pair_of, typed_call, item_call, item_answer}
 use Rattle.tape.specs.Whole.{NeverNoRoom}
 use Rattle.printer.proofs.UnusedTails.{lent_is_enough}
@@ -54,12 +53,12 @@ ask_other s option whose side enable =
     (either Q (clashes s.sides side enable) (omega arith)
     (either Q (is_already a) (omega arith) (moves a)))
   where
-    Q : Asking → Type 0
+    Q : Result Move Code → Type 0
     Q a = Answered (asked_by (refused s) (λ q r. done (moved_with_reply s side q (reply_bytes whose r option))) a)
 
-    moves : (a : Asked) → Q (as_moves a)
-    moves Already = omega arith
-    moves (Moves q r) = omega arith
+    moves : (a : Option Move) → Q (ok_or a AlreadySo)
+    moves None = omega arith
+    moves (Some m) = omega arith
 
 module _ (s : PrinterState) (paper wire : ℕ) (p : paper_room ≤ paper) (w : wire_room ≤ wire) where
   room : no_room paper wire ≡ false
@@ -81,14 +80,14 @@ module _ (s : PrinterState) (paper wire : ℕ) (p : paper_room ≤ paper) (w : w
   unfolding ask_call
   of_ask option way = with_room_lem [] _ tt (ask_other s option (asked_whose way) (asked_side End.Printer option way) (asked_enable way))
 
-  of_typed : (p : Pair) → Answered (typed_call s p paper wire)
-  of_typed (Typed k) = of_key k
-  of_typed Other = omega arith
+  of_typed : (p : Option Key) → Answered (typed_call s p paper wire)
+  of_typed (Some k) = of_key k
+  of_typed None = omega arith
 
   of_item : (i : Item) → Answered (item_call s i paper wire)
-  of_item (network_byte b) = of_network b
-  of_item (key_pair kind v) = of_typed (pair_of kind v)
-  of_item (ask_pair option way) = of_ask option way
+  of_item (NetworkByte b) = of_network b
+  of_item (KeyPair kind v) = of_typed (pair_of kind v)
+  of_item (AskPair option way) = of_ask option way
 
 pub never_no_room : NeverNoRoom
 unfolding item_answer

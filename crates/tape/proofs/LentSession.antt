@@ -13,11 +13,11 @@ use Rattle.printer.specs.Session.Call.{network, key, ask}
 use Rattle.printer.specs.UnusedTails as T
 use Rattle.printer.specs.UnusedTails.{Tails, in_tails, unused_after}
 use Rattle.printer.proofs.UnusedTails.{from_lent, after_lent}
-use Rattle.tape.specs.declared.Found.{Found}
-use Rattle.tape.specs.declared.Found.TheVariants.{Field, End, Bad}
-use Rattle.tape.specs.declared.Pair.{Pair}
-use Rattle.tape.specs.declared.Pair.TheVariants.{Typed, Other}
-use Rattle.tape.specs.Fields.{Scanned, fields_at, Item, network_byte, key_pair, ask_pair, items_of}
+use Rattle.std.specs.Prelude.{Option, Some, None, Ok, Err}
+use Rattle.keys.specs.declared.Key.{Key}
+use Rattle.tape.specs.declared.Item.{Item}
+use Rattle.tape.specs.declared.Item.TheVariants.{NetworkByte, KeyPair, AskPair}
+use Rattle.tape.specs.Fields.{Found, Scanned, fields_at, items_of}
 use Rattle.tape.specs.Lines.{answer_line}
 use Rattle.tape.specs.Running.{TapeRun, programs, begun, with_room, pair_of, typed_call, item_answer, after_item, Ran, before, ran_then, items_run, field_run, fields_run, tape_room, tape_output}
 use Rattle.tape.specs.LentSession.{pair_calls, calls_of, Placed, placed_from, placed_then, placed_in, last_then, last_in, line_then, lines_of, calls_in, RunIsLent}
@@ -27,16 +27,16 @@ data Comes (r : TapeRun) : List Call → CallEffect → Type 0 where
   none : Comes r [] (refused r.printer BadCommand)
   one : (c : Call) → Comes r (c ∷ []) (called r.printer (in_tails (with_room r).tails c))
 
-pair_comes : (r : TapeRun) (p : Pair) → Comes r (pair_calls p) (typed_call r.printer p (with_room r).tails.paper (with_room r).tails.wire)
+pair_comes : (r : TapeRun) (p : Option Key) → Comes r (pair_calls p) (typed_call r.printer p (with_room r).tails.paper (with_room r).tails.wire)
 unfolding called
-pair_comes r (Typed k) = Comes.one (key k 0 0)
-pair_comes r Other = Comes.none
+pair_comes r (Some k) = Comes.one (key k 0 0)
+pair_comes r None = Comes.none
 
 comes : (r : TapeRun) (i : Item) → Comes r (calls_of i) (item_answer (with_room r) i)
 unfolding called item_answer
-comes r (network_byte b) = Comes.one (network b 0 0)
-comes r (key_pair kind v) = pair_comes r (pair_of kind v)
-comes r (ask_pair option way) = Comes.one (ask option way 0 0)
+comes r (NetworkByte b) = Comes.one (network b 0 0)
+comes r (KeyPair kind v) = pair_comes r (pair_of kind v)
+comes r (AskPair option way) = Comes.one (ask option way 0 0)
 
 abbrev made : TapeRun → List Call → List Call
 made r cs = T.lent_from programs r.printer r.tails cs
@@ -94,9 +94,9 @@ found_first : (field : ℕ) (r : TapeRun) (f : Found) (body : List ℕ) (later :
     → ((r' : TapeRun) → Same r' (next r') (calls_in later) (lines_of later) last)
     → (let ps = placed_then field f body later in Same r (field_run field r f body next) (calls_in ps) (lines_of ps) (last_then field f last))
 unfolding lines_of flat_map T.lent_from T.tails_after reached
-found_first field r End body later last next behind = record { lines = refl; printer = refl; tails = refl }
-found_first field r Bad body later last next behind = record { lines = append-nil _; printer = refl; tails = refl }
-found_first field r (Field tag start size cursor) body later last next behind = items_first later last next behind field 1 r (items_of tag body)
+found_first field r (Ok None) body later last next behind = record { lines = refl; printer = refl; tails = refl }
+found_first field r (Err e) body later last next behind = record { lines = append-nil _; printer = refl; tails = refl }
+found_first field r (Ok (Some f)) body later last next behind = items_first later last next behind field 1 r (items_of f.tag body)
 
 fields_first : (field : ℕ) (r : TapeRun) (ss : List Scanned) → Same r (fields_run field r ss) (calls_in (placed_in field ss)) (lines_of (placed_in field ss)) (last_in field ss)
 unfolding fields_run placed_in last_in lines_of flat_map T.lent_from T.tails_after reached

@@ -1,5 +1,4 @@
 pub mod Heads
-pub mod Digits
 pub mod LineParts
 pub mod Bounds
 pub mod Lending
@@ -10,6 +9,5 @@ pub mod ManySteps
 pub mod Numbers
 pub mod Machines
 pub mod Runs
-pub mod Readers
 pub mod Scanned
 pub mod LentSession

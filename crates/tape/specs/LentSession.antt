@@ -1,6 +1,6 @@
 -- The run of a tape is a session of the printer end in lent tails (printer/UnusedTails), with buffers of 4,096 and 16,384 bytes. Over
 -- all fields, its lines are those of the answers to the calls that the items stand for.
-use Rattle.std.specs.Prelude.{◌≡◌, ℕ, ◌+◌, ◌≤◌, length}
+use Rattle.std.specs.Prelude.{◌≡◌, ℕ, ◌+◌, ◌≤◌, length, Option, Some, None, Ok, Err}
 use mathlib.Core.List.{List, [], ◌∷◌, ◌++◌, flat_map}
 use Rattle.codes.specs.Answers.{code_number}
 use Rattle.codes.specs.declared.Code.TheVariants.{BadCommand}
@@ -8,23 +8,22 @@ use Rattle.printer.specs.State.{fresh, CallEffect}
 use Rattle.printer.specs.Session.{Call, reached, session}
 use Rattle.printer.specs.Session.Call.{network, key, ask}
 use Rattle.printer.specs.UnusedTails as T
-use Rattle.tape.specs.declared.Found.{Found}
-use Rattle.tape.specs.declared.Found.TheVariants.{Field, End, Bad}
-use Rattle.tape.specs.declared.Pair.{Pair}
-use Rattle.tape.specs.declared.Pair.TheVariants.{Typed, Other}
-use Rattle.tape.specs.Fields.{Scanned, fields_at, Item, network_byte, key_pair, ask_pair, items_of}
+use Rattle.keys.specs.declared.Key.{Key}
+use Rattle.tape.specs.declared.Item.{Item}
+use Rattle.tape.specs.declared.Item.TheVariants.{NetworkByte, KeyPair, AskPair}
+use Rattle.tape.specs.Fields.{Found, Scanned, fields_at, items_of}
 use Rattle.tape.specs.Lines.{shown, answer_line, bad_tape}
 use Rattle.tape.specs.Running.{programs, pair_of, tape_run, tape_room, tape_output}
 
 -- the call that an item stands for, its sizes left to the tails; a pair that is no key stands for none
-abbrev pub pair_calls : Pair → List Call
-pair_calls (Typed k) = key k 0 0 ∷ []
-pair_calls Other = []
+abbrev pub pair_calls : Option Key → List Call
+pair_calls (Some k) = key k 0 0 ∷ []
+pair_calls None = []
 
 abbrev pub calls_of : Item → List Call
-calls_of (network_byte b) = network b 0 0 ∷ []
-calls_of (key_pair kind v) = pair_calls (pair_of kind v)
-calls_of (ask_pair option way) = ask option way 0 0 ∷ []
+calls_of (NetworkByte b) = network b 0 0 ∷ []
+calls_of (KeyPair kind v) = pair_calls (pair_of kind v)
+calls_of (AskPair option way) = ask option way 0 0 ∷ []
 
 -- an item, with its field's number and its own
 pub record Placed : Type 0 where
@@ -38,9 +37,9 @@ placed_from field n (i ∷ is) = record { field = field; number = n; item = i } 
 
 -- the items of fields, from a field's number on, up to the end or a bad field
 abbrev pub placed_then : ℕ → Found → List ℕ → List Placed → List Placed
-placed_then field End body later = []
-placed_then field Bad body later = []
-placed_then field (Field tag start size cursor) body later = placed_from field 1 (items_of tag body) ++ later
+placed_then field (Ok None) body later = []
+placed_then field (Err e) body later = []
+placed_then field (Ok (Some f)) body later = placed_from field 1 (items_of f.tag body) ++ later
 
 unfoldable pub placed_in : ℕ → List Scanned → List Placed
 placed_in field [] = []
@@ -48,9 +47,9 @@ placed_in field (s ∷ ss) = placed_then field s.found s.body (placed_in (field 
 
 -- .. and what is printed behind them: a bad field's number
 abbrev pub last_then : ℕ → Found → List ℕ → List ℕ
-last_then field End later = []
-last_then field Bad later = bad_tape field
-last_then field (Field tag start size cursor) later = later
+last_then field (Ok None) later = []
+last_then field (Err e) later = bad_tape field
+last_then field (Ok (Some f)) later = later
 
 unfoldable pub last_in : ℕ → List Scanned → List ℕ
 last_in field [] = []

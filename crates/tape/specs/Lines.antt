@@ -1,18 +1,10 @@
 -- What the program prints, in ASCII.
-use Rattle.std.specs.Prelude.{Bool, ◌&&◌, cond, ℕ, zero, suc, ◌+◌, ◌/◌, ◌%◌, length, ltb, eqb}
+use Rattle.std.specs.Prelude.{Bool, ◌&&◌, cond, ℕ, ◌+◌, ◌/◌, ◌%◌, length, ltb, eqb}
 use mathlib.Core.List.{List, [], ◌∷◌, ◌++◌, flat_map}
 use Rattle.codes.specs.Answers.{code_number}
 use Rattle.printer.specs.State.{CallEffect}
 use Rattle.codes.specs.Telnet.{LF}
-
--- at most n digits of a number
-unfoldable pub digits : ℕ → ℕ → List ℕ
-digits zero m = []
-digits (suc n) m = cond (ltb m 10) ((48 + m) ∷ []) (digits n (m / 10) ++ (48 + m % 10) ∷ [])
-
--- numbers on a tape's lines have at most five digits
-abbrev pub decimal : ℕ → List ℕ
-decimal m = digits 5 m
+use Rattle.decimals.specs.Decimals.{decimal}
 
 abbrev pub hex_digit : ℕ → ℕ
 hex_digit n = cond (ltb n 10) (48 + n) (55 + n)

@@ -1,10 +1,9 @@
 -- The numbers of a run's lines: no more fields and items than the tape has bytes, so that each number is printed whole.
-use Rattle.std.specs.Prelude.{◌≡◌, List, ℕ, ◌+◌, ◌≤◌, length}
+use Rattle.std.specs.Prelude.{List, ℕ, ◌+◌, ◌≤◌, length}
 use Rattle.tape.specs.declared.Place.{Place}
-use Rattle.tape.specs.Lines.{decimal}
+use Rattle.decimals.specs.Decimals.{Reads}
 use Rattle.tape.specs.Running.{tape_room}
 use Rattle.tape.specs.Refinement.Steps.{At, stepped, start}
-use Rattle.tape.specs.Whole.{read_on}
 
 -- a place within a tape
 pub record Within (tape : List ℕ) (p : Place) : Type 0 where
@@ -22,10 +21,6 @@ StartWithin = (tape : List ℕ) → Within tape start.place
 -- past the end.
 abbrev pub StepWithin : Type 0
 StepWithin = (tape : List ℕ) (a : At) → Within tape a.place → Within tape (stepped tape a).at.place
-
--- the digits are those of the number
-abbrev pub Reads : ℕ → Type 0
-Reads n = read_on 0 (decimal n) ≡ n
 
 -- what a step may print: the numbers of its item, or that of a bad field behind it
 pub record Numbered (p : Place) : Type 0 where

@@ -1,16 +1,15 @@
 -- Running a tape on a fresh printer end: what it prints.
-use Rattle.std.specs.Prelude.{cond, List, [], ◌∷◌, ◌++◌, ℕ, ◌+◌, length, ltb, eqb}
+use Rattle.std.specs.Prelude.{cond, List, [], ◌∷◌, ◌++◌, ℕ, ◌+◌, length, ltb, eqb, Option, Some, None, Ok, Err}
 use Rattle.codes.specs.declared.Code.TheVariants.{BadCommand}
+use Rattle.keys.specs.declared.Key.{Key}
 use Rattle.keys.specs.declared.Key.TheVariants.{Char, Line, Command}
 use Rattle.printer.specs.State.{PrinterState, fresh, CallEffect, refused}
 use Rattle.printer.specs.Calls.{network_call, key_call, ask_call}
 use Rattle.printer.specs.UnusedTails as T
 use Rattle.printer.specs.UnusedTails.{Tails, unused_after}
-use Rattle.tape.specs.declared.Found.{Found}
-use Rattle.tape.specs.declared.Pair.{Pair}
-use Rattle.tape.specs.declared.Pair.TheVariants.{Typed, Other}
-use Rattle.tape.specs.declared.Found.TheVariants.{Field, End, Bad}
-use Rattle.tape.specs.Fields.{Scanned, fields_at, Item, network_byte, key_pair, ask_pair, items_of}
+use Rattle.tape.specs.declared.Item.{Item}
+use Rattle.tape.specs.declared.Item.TheVariants.{NetworkByte, KeyPair, AskPair}
+use Rattle.tape.specs.Fields.{Found, Scanned, fields_at, items_of}
 use Rattle.tape.specs.Lines.{answer_line, bad_tape}
 
 -- the printer end, and how much of each lent buffer is unused
@@ -36,20 +35,20 @@ abbrev pub with_room : TapeRun → TapeRun
 with_room r = record { printer = r.printer; tails = T.lent_afresh programs r.tails }
 
 -- a pair (0, b) is Char(b), (1, 0) is Line, (2, c) is Command(c); a pair of no such form stands for no key
-unfoldable pub pair_of : ℕ → ℕ → Pair
+unfoldable pub pair_of : ℕ → ℕ → Option Key
 pair_of kind v =
-    cond (eqb kind 0) (Typed (Char v))
-    (cond (eqb kind 2) (Typed (Command v)) (cond (eqb kind 1) (cond (eqb v 0) (Typed Line) Other) Other))
+    cond (eqb kind 0) (Some (Char v))
+    (cond (eqb kind 2) (Some (Command v)) (cond (eqb kind 1) (cond (eqb v 0) (Some Line) None) None))
 
 -- .. and is code 3
-abbrev pub typed_call : PrinterState → Pair → ℕ → ℕ → CallEffect
-typed_call s (Typed k) paper wire = key_call s k paper wire
-typed_call s Other paper wire = refused s BadCommand
+abbrev pub typed_call : PrinterState → Option Key → ℕ → ℕ → CallEffect
+typed_call s (Some k) paper wire = key_call s k paper wire
+typed_call s None paper wire = refused s BadCommand
 
 abbrev pub item_call : PrinterState → Item → ℕ → ℕ → CallEffect
-item_call s (network_byte b) paper wire = network_call s b paper wire
-item_call s (key_pair kind v) paper wire = typed_call s (pair_of kind v) paper wire
-item_call s (ask_pair option way) paper wire = ask_call s option way paper wire
+item_call s (NetworkByte b) paper wire = network_call s b paper wire
+item_call s (KeyPair kind v) paper wire = typed_call s (pair_of kind v) paper wire
+item_call s (AskPair option way) paper wire = ask_call s option way paper wire
 
 -- an item's answer, in the unused tails
 unfoldable pub item_answer : TapeRun → Item → CallEffect
@@ -83,9 +82,9 @@ items_run field item r (i ∷ is) =
 
 -- a field and what comes behind it; nothing comes behind a bad one
 abbrev pub field_run : ℕ → TapeRun → Found → List ℕ → (TapeRun → Ran) → Ran
-field_run field r End body next = silent r
-field_run field r Bad body next = before (bad_tape field) (silent r)
-field_run field r (Field tag start size cursor) body next = ran_then (items_run field 1 r (items_of tag body)) next
+field_run field r (Ok None) body next = silent r
+field_run field r (Err e) body next = before (bad_tape field) (silent r)
+field_run field r (Ok (Some f)) body next = ran_then (items_run field 1 r (items_of f.tag body)) next
 
 -- fields, from a field's number on
 unfoldable pub fields_run : ℕ → TapeRun → List Scanned → Ran

@@ -1,21 +1,15 @@
 -- A reader over a tape: what it stands at, the body there, and where it stands afterwards.
-use Rattle.std.specs.Prelude.{◌≡◌, Bool, true, false, cond, List, [], ◌∷◌, ℕ, zero, suc, ◌+◌, ◌≤◌, ◌<◌, length}
+use Rattle.std.specs.Prelude.{◌≡◌, Bool, true, false, cond, List, [], ◌∷◌, ℕ, zero, suc, ◌+◌, ◌≤◌, ◌<◌, length, Some, None, Ok, Err}
 use denote.Ref.{Bor}
-use Rattle.tape.specs.declared.Found.{Found}
-use Rattle.tape.specs.declared.Found.TheVariants.{Field, End, Bad}
-use Rattle.tape.specs.declared.Moved.{Moved}
 use Rattle.tape.specs.declared.TapeReader.{TapeReader}
-use Rattle.tape.specs.Fields.{head_size, size_at, found_at, part_of, body_at, Scanned, fields_from}
+use Rattle.tape.specs.Fields.{Found, head_size, size_at, found_at, part_of, body_at, Scanned, fields_from}
 use Rattle.tape.specs.Running.{begun, fields_run, tape_room, tape_output}
 
 -- a field is passed; the end and a bad field are not
 abbrev pub place_after : Found → ℕ → ℕ
-place_after (Field tag start size next) at = next.at
-place_after End at = at
-place_after Bad at = at
-
-abbrev pub moved_from : List ℕ → ℕ → Moved
-moved_from tape at = record { found = found_at tape at; at = place_after (found_at tape at) at }
+place_after (Ok (Some f)) at = f.next.at
+place_after (Ok None) at = at
+place_after (Err e) at = at
 
 -- a reader over a lent tape, at a place
 abbrev pub reader_at : Bor (List ℕ) → ℕ → TapeReader
@@ -32,9 +26,9 @@ abbrev pub reader_after : TapeReader → TapeReader
 reader_after t = record { tape = t.tape; at = place_after (found_by t) t.at }
 
 abbrev pub is_field : Found → Bool
-is_field (Field tag start size next) = true
-is_field End = false
-is_field Bad = false
+is_field (Ok (Some f)) = true
+is_field (Ok None) = false
+is_field (Err e) = false
 
 -- what it gives at so many calls, one after the other; the end or a bad field is the last
 unfoldable pub scanned_by : ℕ → TapeReader → List Scanned

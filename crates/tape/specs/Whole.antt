@@ -1,21 +1,11 @@
--- Claims about the tape's rules: numbers are printed whole, a line has a bound, a run never meets code 1, and no field is
--- left out.
-use Rattle.std.specs.Prelude.{◌≡◌, List, [], ◌∷◌, ℕ, suc, ◌+◌, ◌*◌, ◌-◌, ◌≤◌, ◌<◌, length}
+-- Claims about the tape's rules: a line has a bound, a run never meets code 1, and no field is left out.
+use Rattle.std.specs.Prelude.{◌≡◌, List, ℕ, suc, ◌+◌, ◌*◌, ◌≤◌, length}
 use Rattle.codes.specs.Answers.{paper_room, wire_room}
 use Rattle.codes.specs.declared.Code.TheVariants.{NoRoom}
-use Rattle.tape.specs.Fields.{Item, fields_from, fields_at}
-use Rattle.tape.specs.Lines.{decimal, line_of, shown, bad_tape}
+use Rattle.tape.specs.declared.Item.{Item}
+use Rattle.tape.specs.Fields.{fields_from, fields_at}
+use Rattle.tape.specs.Lines.{line_of, shown, bad_tape}
 use Rattle.tape.specs.Running.{TapeRun, with_room, item_answer}
-
--- the number that digits stand for, behind those of a number read before
-unfoldable pub read_on : ℕ → List ℕ → ℕ
-read_on n [] = n
-read_on n (d ∷ ds) = read_on (10 * n + (d - 48)) ds
-
--- Assumed: a number under 100,000. Promised: its digits, read as a number, are it. Ruled out: a digit that is lost;
--- digits in the wrong order.
-abbrev pub DecimalReads : Type 0
-DecimalReads = (n : ℕ) → n < 100000 → read_on 0 (decimal n) ≡ n
 
 -- three numbers of five digits, two bytes of hex for each byte, and a byte behind each of the five
 abbrev pub line_room : ℕ

@@ -2,37 +2,39 @@
 ghost use Rattle.std.specs.Prelude.{◌≡◌, length};
 ghost use Rattle.lists.specs.Buffers.{lent, RoomFor};
 ghost use Rattle.printer.specs.Refinement.{view_printer, RefinesAnswer};
-ghost use Rattle.tape.specs.Fields.{item_of};
 ghost use Rattle.tape.specs.Lines.{answer_line};
 ghost use Rattle.tape.specs.Running.{pair_of, typed_call, item_call};
-ghost use Rattle.tape.specs.Refinement.Machine.{item_at, RefinesItem};
+ghost use Rattle.tape.specs.Refinement.Steps.{next_item};
+ghost use Rattle.tape.specs.Refinement.Machine.{RefinesItem};
 
-use super::{KEYS, NETWORK, Pair, Place, Shown, lines};
+use super::lines::Line;
+use super::{Item, Place, Shown, Tag};
 use codes::{Code, Note};
 use keys::Key;
 use printer::{Answer, Printer, calls};
 
-// The first byte of a pair: which kind of key it is.
-const CHAR: u8 = 0;
+// The item that a body begins with, if one is left of it.
+pub fn next_item(tag: Tag, body: &[u8]) -> Option<Item>
+    ensures { result ≡ next_item tag body.now }
+{
+    match (tag, body) {
+        (Tag::Network, [b, ..]) => Some(Item::NetworkByte(*b)),
+        (Tag::Keys, [kind, v, ..]) => Some(Item::KeyPair(*kind, *v)),
+        (Tag::Asks, [option, way, ..]) => Some(Item::AskPair(*option, *way)),
+        _ => None,
+    }
+}
 
-const LINE: u8 = 1;
-
-const COMMAND: u8 = 2;
-
-fn key_of(kind: u8, v: u8) -> Pair
+// The key that a pair stands for, if any. No TryFrom: a key is of a crate that knows no tapes.
+#[tactic(auto, unfolding(crate::specs::Running::pair_of))]
+fn key_of(kind: u8, v: u8) -> Option<Key>
     ensures { result ≡ pair_of kind v }
 {
-    match kind {
-        CHAR => Pair::Typed(Key::Char(v)),
-        LINE => {
-            if v == 0 {
-                Pair::Typed(Key::Line)
-            } else {
-                Pair::Other
-            }
-        }
-        COMMAND => Pair::Typed(Key::Command(v)),
-        _ => Pair::Other,
+    match (kind, v) {
+        (0, _) => Some(Key::Char(v)),
+        (1, 0) => Some(Key::Line),
+        (2, _) => Some(Key::Command(v)),
+        _ => None,
     }
 }
 
@@ -40,8 +42,7 @@ fn key_of(kind: u8, v: u8) -> Pair
 fn press_pair(s: Printer, kind: u8, v: u8, paper: &mut [u8], wire: &mut [u8]) -> Answer
     ensures { RefinesAnswer (typed_call (view_printer s) (pair_of kind v)) s (lent paper) (lent wire) result }
 {
-    let pair = key_of(kind, v);
-    let Pair::Typed(key) = pair else {
+    let Some(key) = key_of(kind, v) else {
         return Answer {
             code: Code::BadCommand,
             note: Note::Clear,
@@ -53,14 +54,13 @@ fn press_pair(s: Printer, kind: u8, v: u8, paper: &mut [u8], wire: &mut [u8]) ->
     calls::press(s, key, paper, wire)
 }
 
-// An item by its field's tag: a network byte is the first of the two bytes.
-fn call_item(s: Printer, tag: u8, a: u8, b: u8, paper: &mut [u8], wire: &mut [u8]) -> Answer
-    ensures { RefinesAnswer (item_call (view_printer s) (item_of tag a b)) s (lent paper) (lent wire) result }
+fn call_item(s: Printer, item: Item, paper: &mut [u8], wire: &mut [u8]) -> Answer
+    ensures { RefinesAnswer (item_call (view_printer s) item) s (lent paper) (lent wire) result }
 {
-    match tag {
-        NETWORK => calls::network_byte(s, a, paper, wire),
-        KEYS => press_pair(s, a, b, paper, wire),
-        _ => calls::ask(s, a, b, paper, wire),
+    match item {
+        Item::NetworkByte(b) => calls::network_byte(s, b, paper, wire),
+        Item::KeyPair(kind, v) => press_pair(s, kind, v, paper, wire),
+        Item::AskPair(option, way) => calls::ask(s, option, way, paper, wire),
     }
 }
 
@@ -68,31 +68,26 @@ fn call_item(s: Printer, tag: u8, a: u8, b: u8, paper: &mut [u8], wire: &mut [u8
 pub fn put_item(
     s: Printer,
     p: Place,
-    a: u8,
-    b: u8,
+    item: Item,
     paper: &mut [u8],
     wire: &mut [u8],
     out: &mut [u8],
 ) -> Shown
-    requires { RoomFor (answer_line p.field p.item (item_at (view_printer s) p a b (length paper.old) (length wire.old))) out.old }
-    ensures { RefinesItem (item_at (view_printer s) p a b) (answer_line p.field p.item) s (lent paper) (lent wire) (lent out) result }
+    requires { RoomFor (answer_line p.field p.item (item_call (view_printer s) item (length paper.old) (length wire.old))) out.old }
+    ensures { RefinesItem (item_call (view_printer s) item) (answer_line p.field p.item) s (lent paper) (lent wire) (lent out) result }
 {
-    let answer = call_item(s, p.tag, a, b, paper, wire);
-    let code = answer.code;
-    let number = codes::code_number(code);
-    let state = answer.state;
-    let written = lines::put_shown(
-        p.field,
-        p.item,
-        number,
-        &paper[..answer.paper],
-        &wire[..answer.wire],
-        out,
-    );
+    let answer = call_item(s, item, paper, wire);
+    let line = Line {
+        field: p.field,
+        item: p.item,
+        code: answer.code.into(),
+        paper: &paper[..answer.paper],
+        wire: &wire[..answer.wire],
+    };
     Shown {
-        written,
+        written: line.put_shown(out),
         paper: answer.paper,
         wire: answer.wire,
-        state,
+        state: answer.state,
     }
 }

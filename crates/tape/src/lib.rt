@@ -1,7 +1,9 @@
 // The tape: tagged fields, and the lines that a run of one prints.
 #![tactic(auto)]
 
-use keys::Key;
+ghost use Rattle.std.specs.Prelude.{◌≡◌};
+ghost use Rattle.tape.specs.Fields.{tag_of, tag_number};
+
 use printer::Printer;
 
 pub mod fields;
@@ -10,30 +12,58 @@ mod lines;
 pub mod running;
 pub mod scanning;
 
-// The tags of fields: network bytes, key pairs, ask pairs.
-pub const NETWORK: u8 = 1;
+// What the items of a field are.
+#[derive(Clone, Copy, Debug, PartialEq, Eq)]
+pub enum Tag {
+    Network,
+    Keys,
+    Asks,
+}
 
-pub const KEYS: u8 = 2;
+// A field with an unknown tag, one that is cut off, or an odd body of pairs.
+#[derive(Clone, Copy, Debug, PartialEq, Eq)]
+pub struct BadField;
 
-pub const ASKS: u8 = 3;
+impl TryFrom<u8> for Tag {
+    type Error = BadField;
+
+    ghost try_from_gives = { λ n r. r ≡ tag_of n };
+
+    #[tactic(auto, unfolding(crate::specs::Fields::tag_of))]
+    fn try_from(number: u8) -> Result<Self, BadField> {
+        match number {
+            1 => Ok(Tag::Network),
+            2 => Ok(Tag::Keys),
+            3 => Ok(Tag::Asks),
+            _ => Err(BadField),
+        }
+    }
+}
+
+impl From<Tag> for u8 {
+    ghost from_gives = { λ t n. n ≡ tag_number t };
+
+    fn from(t: Tag) -> u8 {
+        match t {
+            Tag::Network => 1,
+            Tag::Keys => 2,
+            Tag::Asks => 3,
+        }
+    }
+}
 
 #[derive(Clone, Copy)]
 pub struct Cursor {
     pub at: usize,
 }
 
-// What stands at a cursor: a field, with its tag, where its body stands and the cursor past it; the tape's end; or a
-// field that is bad (an unknown tag, a cut field, an odd body of pairs).
+// A field: its tag, where its body stands, and the cursor past it.
 #[derive(Clone, Copy)]
-pub enum Found {
-    Field {
-        tag: u8,
-        start: usize,
-        size: usize,
-        next: Cursor,
-    },
-    End,
-    Bad,
+pub struct Field {
+    pub tag: Tag,
+    pub start: usize,
+    pub size: usize,
+    pub next: Cursor,
 }
 
 // A reader over the host's tape: the tape, and a place on it.
@@ -43,18 +73,12 @@ pub struct TapeReader<'a> {
     pub at: usize,
 }
 
-// What stands at a place, and the place after it.
+// What a field holds: a network byte, the two bytes of a key, or an option and the way that it is asked for.
 #[derive(Clone, Copy)]
-pub struct Moved {
-    pub found: Found,
-    pub at: usize,
-}
-
-// A key pair: a key, or a pair that stands for none.
-#[derive(Clone, Copy)]
-pub enum Pair {
-    Typed(Key),
-    Other,
+pub enum Item {
+    NetworkByte(u8),
+    KeyPair(u8, u8),
+    AskPair(u8, u8),
 }
 
 // What an item did: the length of its line, the bytes that it wrote to the two lent buffers, and the state after it.
@@ -66,8 +90,9 @@ pub struct Shown {
     pub state: Printer,
 }
 
-// Where a run stands in its tape: the number of the field, the number of the next item, its field's tag, where it
-// stands and how many bytes of the body are left from there; where the next field stands; whether the run is over.
+// Where a run stands in its tape: the number of the field, the number of the next item, its field's tag as a number, where it
+// stands and how many bytes of the body are left from there; where the next field stands; whether the run is over, which
+// a host asks of any place (`running::is_over`).
 #[derive(Clone, Copy)]
 pub struct Place {
     pub field: usize,

@@ -1,40 +1,34 @@
 // A tape's lines on standard output.
 #![tactic(auto)]
 
-ghost use Rattle.std.specs.Prelude.{◌≡◌, false, ◌≤◌, ◌<◌, length};
+ghost use Rattle.std.specs.Prelude.{◌≡◌, false, ◌≤◌, ◌<◌, length, IfOk};
 ghost use Rattle.tape.specs.Whole.{line_room};
 ghost use Rattle.tape.specs.Refinement.Steps.{is_over, ahead};
 
 use std::io;
 use tape::{Machine, running};
 
-// Whether lines could be written, and the run after them.
-#[derive(Clone, Copy)]
-struct Printed {
-    written: io::Result<()>,
-    machine: Machine,
-}
+// How much of a tape is read: one byte more than a tape may have, so that a longer one is seen to be one.
+pub const TAPE_READ: usize = 65537;
 
-// The lines that fit the output buffer once.
-fn print_some(rt: &impl Print, tape: &[u8], m: Machine, out: &mut [u8]) -> Printed
+// The lines that fit the output buffer once, and the run after them.
+fn print_some(rt: &impl Print, tape: &[u8], m: Machine, out: &mut [u8]) -> io::Result<Machine>
     requires { line_room ≤ length out.old }
-    ensures { is_over m.place ≡ false → ahead tape.now result.machine.place < ahead tape.now m.place }
+    ensures { IfOk result (λ next. is_over m.place ≡ false → ahead tape.now next.place < ahead tape.now m.place) }
 {
-    let s = running::run(tape, m, out);
-    let written = rt.write_all(&out[..s.written]);
-    let machine = s.machine;
-    Printed { written, machine }
+    let step = running::run(tape, m, out);
+    rt.write_all(&out[..step.written])?;
+    Ok(step.machine)
 }
 
 // All lines, as long as they can be written.
 fn print_all(rt: &impl Print, tape: &[u8], out: &mut [u8]) -> io::Result<()>
     requires { line_room ≤ length out.old }
 {
+    // by as much as a run printed, which no iterator knows before it
     let mut machine = running::begin();
     while !running::is_over(machine.place) {
-        let printed = print_some(rt, tape, machine, out);
-        printed.written?;
-        machine = printed.machine;
+        machine = print_some(rt, tape, machine, out)?;
     }
     Ok(())
 }

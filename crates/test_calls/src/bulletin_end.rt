@@ -1,179 +1,157 @@
 // The lines of the bulletin end.
-use crate::by_value::BulletinCall;
-use crate::output::Numbers;
-use crate::run::{PAPER_ROOM, Run, WIRE_ROOM};
-use crate::words::{Item, Kind, Named};
-use crate::{by_value, on_records, output, questions, run, words};
-use bulletin::{Answer, Bulletin};
+use crate::bad_line::BadLine;
+use crate::run::Run;
+use crate::words::{self, Head, Item, Kind, Named};
+use crate::{hex, questions};
+use bulletin::calls;
 use keys::Key;
+use sessions::recorded_bulletin;
 
-// No key waits here.
-fn numbers_of(a: Answer) -> Numbers {
-    let code = a.code;
-    let note = a.note;
-    output::numbers_of(code, note, a.host, a.wire, 0)
-}
-
-// The call by value, in as much of the buffers as is lent.
-fn by_value(run: Run, c: BulletinCall, text: &[u8], host: &mut [u8], wire: &mut [u8]) -> Answer {
-    let h = run.paper.min(host.len());
-    let w = run.wire.min(wire.len());
-    let s = run.bulletin;
-    by_value::bulletin(s, c, text, &mut host[..h], &mut wire[..w])
-}
-
-fn on_record(run: Run, c: BulletinCall, text: &[u8], host: &mut [u8], wire: &mut [u8]) -> Answer {
-    let h = run.paper.min(host.len());
-    let w = run.wire.min(wire.len());
-    let s = run.lent_bulletin;
-    on_records::bulletin(s, c, text, &mut host[..h], &mut wire[..w])
-}
-
-// The answer on a lent record, if it is another than that by value.
-fn on_record_too(
-    rt: &impl Print,
-    run: Run,
-    c: BulletinCall,
-    text: &[u8],
-    call: usize,
-    n: Numbers,
-    host: &[u8],
-    wire: &[u8],
-) -> Bulletin {
-    let mut own_host = [0u8; PAPER_ROOM];
-    let mut own_wire = [0u8; WIRE_ROOM];
-    let a = on_record(run, c, text, &mut own_host, &mut own_wire);
-    let m = numbers_of(a);
-    if !(output::is_same(n, m) && host == own_host.as_slice() && wire == own_wire.as_slice()) {
-        output::say_otherwise(rt, run.line, call);
-        output::say_answer(rt, m, &own_host, &own_wire);
-    }
-    a.state
-}
-
-// A call on both, and the line of its answer.
-fn made(rt: &impl Print, run: Run, c: BulletinCall, text: &[u8], call: usize) -> Run {
-    let mut host = [0u8; PAPER_ROOM];
-    let mut wire = [0u8; WIRE_ROOM];
-    let a = by_value(run, c, text, &mut host, &mut wire);
-    let n = numbers_of(a);
-    if !output::shows_nothing(n, 0) {
-        output::say_place(rt, run.line, call);
-        output::say_answer(rt, n, &host, &wire);
-    }
-    let lent = on_record_too(rt, run, c, text, call, n, &host, &wire);
-    let state = a.state;
-    let mut after = run;
-    after.bulletin = state;
-    after.lent_bulletin = lent;
-    after
-}
-
-fn network(rt: &impl Print, run: Run, bytes: &[u8]) -> Run {
-    let mut after = run;
-    let mut i: usize = 0;
-    while i < bytes.len() {
-        after = made(rt, after, BulletinCall::Network(bytes[i]), bytes, i + 1);
-        i += 1;
-    }
-    after
-}
-
-fn characters(rt: &impl Print, run: Run, bytes: &[u8]) -> Run {
-    let mut after = run;
-    let mut i: usize = 0;
-    while i < bytes.len() {
-        after = made(
+fn network(rt: &impl Print, run: &mut Run, bytes: &[u8]) {
+    for (i, b) in bytes.iter().enumerate() {
+        run.bulletin.call(
             rt,
-            after,
-            BulletinCall::Text(Key::Char(bytes[i])),
-            bytes,
+            run.setting,
             i + 1,
+            |s, host, wire| calls::network_byte(s, *b, host, wire),
+            |s, host, wire| recorded_bulletin::network_byte(s, *b, host, wire),
         );
-        i += 1;
-    }
-    after
-}
-
-fn items(rt: &impl Print, run: Run, kind: Kind, bytes: &[u8]) -> Run {
-    let item = words::item_of(kind, bytes);
-    match item {
-        Item::Characters => characters(rt, run, bytes),
-        Item::One(key) => made(rt, run, BulletinCall::Text(key), bytes, 1),
-        Item::WrongCount => run::wrong_count(rt, run),
-        Item::Unknown => run::refused(rt, run, b"a text item is char, line or command"),
     }
 }
 
-// A number of two bytes, the high one first.
-fn number(high: u8, low: u8) -> u16 {
-    high as u16 * 256 + low as u16
+fn text_item(rt: &impl Print, run: &mut Run, key: Key, call: usize) {
+    run.bulletin.call(
+        rt,
+        run.setting,
+        call,
+        |s, _, wire| calls::text_item(s, key, wire),
+        |s, _, wire| recorded_bulletin::text_item(s, key, wire),
+    );
 }
 
-fn order(rt: &impl Print, run: Run, bytes: &[u8]) -> Run {
-    if bytes.len() == 5 {
-        let breaks = number(bytes[1], bytes[2]);
-        let sends = number(bytes[3], bytes[4]);
-        made(
-            rt,
-            run,
-            BulletinCall::Order(bytes[0], breaks, sends),
-            bytes,
-            1,
-        )
-    } else {
-        run::wrong_count(rt, run)
+fn text(rt: &impl Print, run: &mut Run, kind: Option<Kind>, bytes: &[u8]) -> Result<(), BadLine> {
+    match words::item_of(kind.ok_or(BadLine::TextKind)?, bytes)? {
+        Item::Characters => {
+            for (i, b) in bytes.iter().enumerate() {
+                text_item(rt, run, Key::Char(*b), i + 1);
+            }
+        }
+        Item::One(key) => text_item(rt, run, key, 1),
     }
+    Ok(())
+}
+
+fn ask(rt: &impl Print, run: &mut Run, bytes: &[u8]) -> Result<(), BadLine> {
+    let [option, way] = hex::exactly::<2>(bytes)?;
+    run.bulletin.call(
+        rt,
+        run.setting,
+        1,
+        |s, _, wire| calls::ask(s, option, way, wire),
+        |s, _, wire| recorded_bulletin::ask(s, option, way, wire),
+    );
+    Ok(())
+}
+
+// Orders and suggestions have no form yet that makes the record itself, and are made by value at both.
+fn suggest(rt: &impl Print, run: &mut Run, bytes: &[u8]) -> Result<(), BadLine> {
+    let [option, v] = hex::exactly::<2>(bytes)?;
+    run.bulletin.call(
+        rt,
+        run.setting,
+        1,
+        |s, _, wire| calls::suggest(s, option, v, wire),
+        |s, _, wire| calls::suggest(s, option, v, wire),
+    );
+    Ok(())
+}
+
+// The class pairs are numbers of two bytes, the high one first.
+fn order(rt: &impl Print, run: &mut Run, bytes: &[u8]) -> Result<(), BadLine> {
+    let [cmd, b1, b2, s1, s2] = hex::exactly::<5>(bytes)?;
+    let breaks = u16::from_be_bytes([b1, b2]);
+    let sends = u16::from_be_bytes([s1, s2]);
+    run.bulletin.call(
+        rt,
+        run.setting,
+        1,
+        |s, _, wire| calls::order(s, cmd, breaks, sends, wire),
+        |s, _, wire| calls::order(s, cmd, breaks, sends, wire),
+    );
+    Ok(())
 }
 
 // The byte, then its text.
-fn define(rt: &impl Print, run: Run, bytes: &[u8]) -> Run {
-    if bytes.len() > 0 {
-        made(rt, run, BulletinCall::Define(bytes[0]), &bytes[1..], 1)
-    } else {
-        run::wrong_count(rt, run)
-    }
+fn define(rt: &impl Print, run: &mut Run, bytes: &[u8]) -> Result<(), BadLine> {
+    let (x, text) = bytes.split_first().ok_or(BadLine::Count)?;
+    run.bulletin.call(
+        rt,
+        run.setting,
+        1,
+        |s, _, wire| calls::define(s, *x, text, wire),
+        |s, _, wire| recorded_bulletin::define(s, *x, text, wire),
+    );
+    Ok(())
 }
 
-// A call of one byte.
-fn of_one(rt: &impl Print, run: Run, named: Named, bytes: &[u8]) -> Run {
-    if bytes.len() != 1 {
-        return run::wrong_count(rt, run);
-    }
-    match named {
-        Named::Use => made(rt, run, BulletinCall::Use(bytes[0]), bytes, 1),
-        _ => questions::status(rt, run, bytes[0]),
-    }
+fn use_macro(rt: &impl Print, run: &mut Run, bytes: &[u8]) -> Result<(), BadLine> {
+    let [x] = hex::exactly::<1>(bytes)?;
+    run.bulletin.call(
+        rt,
+        run.setting,
+        1,
+        |s, _, wire| calls::use_macro(s, x, wire),
+        |s, _, wire| recorded_bulletin::use_macro(s, x, wire),
+    );
+    Ok(())
 }
 
-// A call of two.
-fn of_two(rt: &impl Print, run: Run, named: Named, bytes: &[u8]) -> Run {
-    if bytes.len() != 2 {
-        return run::wrong_count(rt, run);
-    }
-    let a = bytes[0];
-    let b = bytes[1];
-    match named {
-        Named::Ask => made(rt, run, BulletinCall::Ask(a, b), bytes, 1),
-        Named::Suggest => made(rt, run, BulletinCall::Suggest(a, b), bytes, 1),
-        _ => made(rt, run, BulletinCall::Issue(number(a, b)), bytes, 1),
-    }
+fn issue(rt: &impl Print, run: &mut Run, bytes: &[u8]) -> Result<(), BadLine> {
+    let n = u16::from_be_bytes(hex::exactly::<2>(bytes)?);
+    run.bulletin.call(
+        rt,
+        run.setting,
+        1,
+        |s, _, wire| calls::issue(s, n, wire),
+        |s, _, wire| recorded_bulletin::issue(s, n, wire),
+    );
+    Ok(())
 }
 
-pub fn line_run(rt: &impl Print, run: Run, named: Named, kind: Kind, bytes: &[u8]) -> Run {
-    let begun = run::next_line(run);
+// The questions, of the state by value.
+fn asked(rt: &impl Print, run: &Run, named: Named, bytes: &[u8]) -> Result<(), BadLine> {
+    let s = run.bulletin.by_value;
+    let line = run.setting.line;
     match named {
-        Named::Network => network(rt, begun, bytes),
-        Named::Text => items(rt, begun, kind, bytes),
-        Named::Ask => of_two(rt, begun, named, bytes),
-        Named::Suggest => of_two(rt, begun, named, bytes),
-        Named::Order => order(rt, begun, bytes),
-        Named::Define => define(rt, begun, bytes),
-        Named::Use => of_one(rt, begun, named, bytes),
-        Named::Issue => of_two(rt, begun, named, bytes),
-        Named::Status => of_one(rt, begun, named, bytes),
-        Named::Report => questions::of_bulletin(rt, begun, named, bytes),
-        Named::Output => questions::of_bulletin(rt, begun, named, bytes),
-        _ => run::refused(rt, begun, b"no such call at the bulletin end"),
+        Named::Report => {
+            let [] = hex::exactly::<0>(bytes)?;
+            questions::report(rt, line, calls::report(s));
+        }
+        Named::Output => {
+            let [] = hex::exactly::<0>(bytes)?;
+            questions::output(rt, line, calls::output(s));
+        }
+        Named::Status => {
+            let [x] = hex::exactly::<1>(bytes)?;
+            questions::standing(rt, line, calls::macro_standing(s, x));
+        }
+        _ => return Err(BadLine::BulletinCall),
     }
+    Ok(())
+}
+
+pub fn line_run(rt: &impl Print, run: &mut Run, head: Head, bytes: &[u8]) -> Result<(), BadLine> {
+    run.next_line();
+    match head.named.ok_or(BadLine::BulletinCall)? {
+        Named::Network => network(rt, run, bytes),
+        Named::Text => text(rt, run, head.kind, bytes)?,
+        Named::Ask => ask(rt, run, bytes)?,
+        Named::Suggest => suggest(rt, run, bytes)?,
+        Named::Order => order(rt, run, bytes)?,
+        Named::Define => define(rt, run, bytes)?,
+        Named::Use => use_macro(rt, run, bytes)?,
+        Named::Issue => issue(rt, run, bytes)?,
+        question => asked(rt, run, question, bytes)?,
+    }
+    Ok(())
 }

@@ -1,124 +1,73 @@
 // A list is run line by line.
-ghost use Rattle.std.specs.Prelude.{◌<◌, ◌≤◌, length};
+use crate::bad_line::BadLine;
+use crate::run::{PAPER_ROOM, Run, Setting, WIRE_ROOM};
+use crate::words::{self, Named};
+use crate::{bulletin_end, hex, printer_end};
 
-use crate::run::Run;
-use crate::words::{Kind, Named};
-use crate::{bulletin_end, hex, output, printer_end, run, words};
-
-// Where the line at a place ends, behind its line feed.
-fn end_of(text: &[u8], at: usize) -> usize
-    requires { at < length text.now }
-    ensures { (at < result) × (result ≤ length text.now) }
-{
-    let mut i = at;
-    while i < text.len() {
-        if text[i] == b'\n' {
-            return i + 1;
-        }
-        i += 1;
+// `room PAPER WIRE`: how large a buffer is lent from here on.
+fn room(run: &mut Run, line: &[u8]) -> Result<(), BadLine> {
+    let head = words::head_of(line);
+    let (paper, rest) = hex::split_number(words::past_spaces(head.rest));
+    let (wire, rest) = hex::split_number(words::past_spaces(rest));
+    let is_room = matches!(head.named, Some(Named::Room)) && words::past_spaces(rest).is_empty();
+    if !is_room || paper > PAPER_ROOM || wire > WIRE_ROOM {
+        return Err(BadLine::Room);
     }
-    i
-}
-
-// The sizes of a line `room PAPER WIRE`, and whether it is one.
-#[derive(Clone, Copy)]
-struct Sizes {
-    paper: usize,
-    wire: usize,
-    is_room: bool,
-}
-
-fn sizes_in(line: &[u8]) -> Sizes {
-    let head = words::head_at(line, 0);
-    let paper = hex::number_at(line, words::past_spaces(line, head.next));
-    let wire = hex::number_at(line, words::past_spaces(line, paper.next));
-    let named = head.named;
-    let ends = words::is_room(named) && words::past_spaces(line, wire.next) == line.len();
-    Sizes {
-        paper: paper.value,
-        wire: wire.value,
-        is_room: ends && paper.value <= run::PAPER_ROOM && wire.value <= run::WIRE_ROOM,
-    }
-}
-
-// How large a buffer is lent from here on.
-fn room(rt: &impl Print, run: Run, line: &[u8]) -> Run {
-    let sizes = sizes_in(line);
-    if !sizes.is_room {
-        return run::refused(rt, run, b"room takes two numbers, up to 4096 and 8192");
-    }
-    let mut lent = run;
-    lent.paper = sizes.paper;
-    lent.wire = sizes.wire;
-    lent
-}
-
-fn calls(
-    rt: &impl Print,
-    run: Run,
-    is_printer: bool,
-    named: Named,
-    kind: Kind,
-    bytes: &[u8],
-) -> Run {
-    if is_printer {
-        printer_end::line_run(rt, run, named, kind, bytes)
-    } else {
-        bulletin_end::line_run(rt, run, named, kind, bytes)
-    }
+    run.setting = Setting {
+        paper,
+        wire,
+        ..run.setting
+    };
+    Ok(())
 }
 
 // A line of calls, behind the letter of its end.
-fn line_of_calls(rt: &impl Print, run: Run, is_printer: bool, line: &[u8]) -> Run
-    requires { 0 < length line.now }
-{
-    let mut bytes = [0u8; hex::ROOM];
-    let head = words::head_at(line, 1);
-    let n = hex::bytes_at(line, head.next, &mut bytes);
-    if n > hex::ROOM {
-        return run::refused(
-            rt,
-            run,
-            b"bytes are two hex capitals each, at most 1,024 to a line",
-        );
+fn line_of_calls(
+    rt: &impl Print,
+    run: &mut Run,
+    is_printer: bool,
+    line: &[u8],
+) -> Result<(), BadLine> {
+    let mut buffer = [0u8; hex::ROOM];
+    let head = words::head_of(line);
+    let bytes = hex::read(head.rest, &mut buffer).ok_or(BadLine::Bytes)?;
+    if is_printer {
+        printer_end::line_run(rt, run, head, bytes)
+    } else {
+        bulletin_end::line_run(rt, run, head, bytes)
     }
-    let named = head.named;
-    let kind = head.kind;
-    calls(rt, run, is_printer, named, kind, &bytes[..n])
 }
 
-fn line_run(rt: &impl Print, run: Run, first: u8, line: &[u8]) -> Run
-    requires { 0 < length line.now }
-{
-    let next = run::next_number(run);
-    match first {
-        b'#' => {
-            output::say(rt, line);
-            next
+fn line_run(rt: &impl Print, run: &mut Run, line: &[u8]) -> Result<(), BadLine> {
+    match line {
+        [b'#', ..] => {
+            let _ = rt.write_all(line);
         }
-        b'\n' => {
-            output::say(rt, line);
-            run::afresh(next)
+        // an empty line: fresh ends
+        [b'\n', ..] => {
+            let _ = rt.write_all(line);
+            *run = Run {
+                called: run.called,
+                ..Run::begin()
+            };
         }
-        b'r' => room(rt, next, line),
-        b'P' => line_of_calls(rt, next, true, line),
-        b'B' => line_of_calls(rt, next, false, line),
-        _ => run::refused(rt, next, b"a line begins with P, B, room or #, or is empty"),
+        [b'r', ..] => room(run, line)?,
+        [b'P', rest @ ..] => line_of_calls(rt, run, true, rest)?,
+        [b'B', rest @ ..] => line_of_calls(rt, run, false, rest)?,
+        _ => return Err(BadLine::Beginning),
     }
+    Ok(())
 }
 
 pub fn run_list(rt: &impl Print, text: &[u8]) {
-    let mut run = run::begin();
-    let mut at: usize = 0;
-    while at < text.len() {
-        let end = end_of(text, at);
-        run = line_run(rt, run, text[at], &text[at..end]);
-        if run.is_over {
+    let mut run = Run::begin();
+    for (i, line) in text.split_inclusive(|b| *b == b'\n').enumerate() {
+        if let Err(why) = line_run(rt, &mut run, line) {
+            let _ = println!(rt; "bad line {}: {why}", i + 1);
             return;
         }
-        at = end;
     }
     if !run.called {
-        output::say(rt, b"no calls\n");
+        let _ = println!(rt; "no calls");
     }
 }

@@ -2,12 +2,11 @@
 // records, with a line more where the second answers otherwise. docs/CALLS.md says what stands in a list and in the answers.
 #![tactic(auto)]
 
+mod answers;
+mod bad_line;
 mod bulletin_end;
-mod by_value;
 mod hex;
 mod line;
-mod on_records;
-mod output;
 mod printer_end;
 mod questions;
 mod run;
@@ -24,34 +23,19 @@ fn run_file(rt: &impl Print, file: &mut impl Read) {
     if n < LIST_ROOM {
         line::run_list(rt, &text[..n]);
     } else {
-        output::say(rt, b"a list is shorter than 65,536 bytes\n");
+        let _ = println!(rt; "a list is shorter than 65,536 bytes");
     }
 }
 
 fn run_named(rt: &HostRuntime, i: usize) {
-    let mut path = [0u8; 65536];
-    let n = match streams::arg(rt, i, &mut path) {
-        Ok(n) => n,
-        Err(error) => {
-            streams::fail(&rt.stderr(), b"an argument", error);
-            return;
-        }
-    };
-    let mut file = match streams::open_read(rt, &path[..n]) {
-        Ok(file) => file,
-        Err(error) => {
-            streams::fail(&rt.stderr(), &path[..n], error);
-            return;
-        }
-    };
-    run_file(rt, &mut file);
+    let mut room = [0u8; 65536];
+    if let Some((_, mut file)) = streams::open_named(rt, &rt.stderr(), i, &mut room) {
+        run_file(rt, &mut file);
+    }
 }
 
 fn main(rt: HostRuntime) {
-    let count = streams::arg_count(&rt);
-    let mut i: usize = 1;
-    while i < count {
+    for i in 1..streams::arg_count(&rt) {
         run_named(&rt, i);
-        i += 1;
     }
 }

@@ -1,5 +1,7 @@
-// Where the run of a list is: both ends, once by value and once as the calls on lent records leave them, and the lines so far.
-use crate::output;
+// Where the run of a list is: both ends, and the lines so far.
+ghost use Rattle.std.specs.Prelude.{◌≤◌, length};
+
+use crate::answers::{End, Made, Shown};
 use bulletin::Bulletin;
 use printer::Printer;
 
@@ -8,73 +10,103 @@ pub const PAPER_ROOM: usize = 4096;
 
 pub const WIRE_ROOM: usize = 8192;
 
+// What goes with each call: how large a buffer is lent to it, and its line among the lines of calls of this example.
 #[derive(Clone, Copy)]
-pub struct Run {
-    pub printer: Printer,
-    pub bulletin: Bulletin,
-    pub lent_printer: Printer,
-    pub lent_bulletin: Bulletin,
-    // how large a buffer is lent to a call
+pub struct Setting {
     pub paper: usize,
     pub wire: usize,
-    // the line of the file, and among the lines of calls of this example; whether there was a call at all
-    pub number: usize,
     pub line: usize,
-    pub called: bool,
-    pub is_over: bool,
 }
 
-pub fn begin() -> Run {
-    let printer = printer::calls::fresh();
-    let bulletin = bulletin::calls::fresh();
-    Run {
-        printer,
-        bulletin,
-        lent_printer: printer,
-        lent_bulletin: bulletin,
-        paper: PAPER_ROOM,
-        wire: WIRE_ROOM,
-        number: 0,
-        line: 0,
-        called: false,
-        is_over: false,
+// An end, once by value and once as the calls on lent records leave it.
+#[derive(Clone, Copy)]
+pub struct Both<S> {
+    pub by_value: S,
+    pub on_record: S,
+}
+
+impl<S: End> Both<S> {
+    fn of(state: S) -> Both<S> {
+        Both {
+            by_value: state,
+            on_record: state,
+        }
+    }
+
+    // Makes a call on both. The line of its answer is printed, and of that on the record too where it is another.
+    pub fn call<A, F, G>(
+        &mut self,
+        rt: &impl Print,
+        setting: Setting,
+        call: usize,
+        by_value: F,
+        on_record: G,
+    )
+    where
+        A: Into<Made<S>>,
+        F: FnOnce(S, &mut [u8], &mut [u8]) -> A,
+        G: FnOnce(S, &mut [u8], &mut [u8]) -> A,
+        requires first { F.IsAlwaysCallable by_value }
+        requires second { G.IsAlwaysCallable on_record }
+    {
+        let p = setting.paper.min(PAPER_ROOM);
+        let w = setting.wire.min(WIRE_ROOM);
+        let line = setting.line;
+        let mut first = [0u8; PAPER_ROOM];
+        let mut wire = [0u8; WIRE_ROOM];
+        let a: Made<S> = by_value(self.by_value, &mut first[..p], &mut wire[..w]).into();
+        if !a.numbers.shows_nothing(self.by_value.waiting()) {
+            let shown = Shown {
+                numbers: a.numbers,
+                first: &first,
+                wire: &wire,
+            };
+            let _ = println!(rt; "{line}.{call} {shown}");
+        }
+        let mut own_first = [0u8; PAPER_ROOM];
+        let mut own_wire = [0u8; WIRE_ROOM];
+        let b: Made<S> = on_record(self.on_record, &mut own_first[..p], &mut own_wire[..w]).into();
+        if a.numbers != b.numbers || first != own_first || wire != own_wire {
+            let shown = Shown {
+                numbers: b.numbers,
+                first: &own_first,
+                wire: &own_wire,
+            };
+            let _ = println!(rt; "{line}.{call} on a lent record otherwise: {shown}");
+        }
+        *self = Both {
+            by_value: a.state,
+            on_record: b.state,
+        };
     }
 }
 
-// An empty line: fresh ends.
-pub fn afresh(run: Run) -> Run {
-    let mut fresh = begin();
-    fresh.number = run.number;
-    fresh.called = run.called;
-    fresh
+#[derive(Clone, Copy)]
+pub struct Run {
+    pub printer: Both<Printer>,
+    pub bulletin: Both<Bulletin>,
+    pub setting: Setting,
+    // whether there was a call at all
+    pub called: bool,
 }
 
-pub fn next_number(run: Run) -> Run {
-    let mut next = run;
-    next.number = run.number.wrapping_add(1);
-    next
-}
+impl Run {
+    pub fn begin() -> Run {
+        Run {
+            printer: Both::of(printer::calls::fresh()),
+            bulletin: Both::of(bulletin::calls::fresh()),
+            setting: Setting {
+                paper: PAPER_ROOM,
+                wire: WIRE_ROOM,
+                line: 0,
+            },
+            called: false,
+        }
+    }
 
-// A line of calls begins.
-pub fn next_line(run: Run) -> Run {
-    let mut next = run;
-    next.line = run.line.wrapping_add(1);
-    next.called = true;
-    next
-}
-
-// A bad line ends the list.
-pub fn refused(rt: &impl Print, run: Run, why: &[u8]) -> Run {
-    output::say(rt, b"bad line ");
-    output::say_number(rt, run.number);
-    output::say(rt, b": ");
-    output::say(rt, why);
-    output::say(rt, b"\n");
-    let mut over = run;
-    over.is_over = true;
-    over
-}
-
-pub fn wrong_count(rt: &impl Print, run: Run) -> Run {
-    refused(rt, run, b"this call takes another number of bytes")
+    // A line of calls begins.
+    pub fn next_line(&mut self) {
+        self.setting.line = self.setting.line.wrapping_add(1);
+        self.called = true;
+    }
 }

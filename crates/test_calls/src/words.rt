@@ -1,6 +1,8 @@
 // The words of a line: which call it asks for, and of a key or a text item which kind.
 ghost use Rattle.std.specs.Prelude.{◌≤◌, length};
 
+use crate::bad_line::BadLine;
+use crate::hex;
 use keys::Key;
 
 #[derive(Clone, Copy)]
@@ -18,7 +20,6 @@ pub enum Named {
     Report,
     Output,
     Room,
-    Unknown,
 }
 
 #[derive(Clone, Copy)]
@@ -26,7 +27,6 @@ pub enum Kind {
     Char,
     Line,
     Command,
-    Unknown,
 }
 
 // What a line of keys or text items has: any number of characters, or one Line or Command.
@@ -34,165 +34,88 @@ pub enum Kind {
 pub enum Item {
     Characters,
     One(Key),
-    WrongCount,
-    Unknown,
 }
 
-// The call, the kind behind `key` or `text`, and the place behind them.
+// The call, the kind behind `key` or `text`, and what stands behind them.
 #[derive(Clone, Copy)]
-pub struct Head {
-    pub named: Named,
-    pub kind: Kind,
-    pub next: usize,
+pub struct Head<'a> {
+    pub named: Option<Named>,
+    pub kind: Option<Kind>,
+    pub rest: &'a [u8],
 }
 
 pub fn is_space(b: u8) -> bool {
     b == b' ' || b == b'\n'
 }
 
-pub fn past_spaces(line: &[u8], at: usize) -> usize
-    requires { at ≤ length line.now }
-    ensures { (at ≤ result) × (result ≤ length line.now) }
-{
-    let mut i = at;
-    while i < line.len() {
-        if !is_space(line[i]) {
-            return i;
-        }
-        i += 1;
-    }
-    i
+pub fn past_spaces(line: &[u8]) -> &[u8] {
+    let start = line.iter().position(|b| !is_space(*b));
+    &line[start.unwrap_or(line.len())..]
 }
 
-fn past_word(line: &[u8], at: usize) -> usize
-    requires { at ≤ length line.now }
-    ensures { (at ≤ result) × (result ≤ length line.now) }
-{
-    let mut i = at;
-    while i < line.len() {
-        if is_space(line[i]) {
-            return i;
-        }
-        i += 1;
-    }
-    i
+// The first word, and what stands behind it.
+fn split_word(line: &[u8]) -> (&[u8], &[u8]) {
+    let line = past_spaces(line);
+    let end = line.iter().position(|b| is_space(*b));
+    line.split_at(end.unwrap_or(line.len()))
 }
 
-fn if_same(word: &[u8], text: &[u8], n: Named) -> Named {
-    if word == text { n } else { Named::Unknown }
-}
-
-fn named_with_s(word: &[u8]) -> Named {
-    if word.len() == 6 {
-        if_same(word, b"status", Named::Status)
-    } else {
-        if_same(word, b"suggest", Named::Suggest)
+fn name_of(word: &[u8]) -> Option<Named> {
+    match word {
+        b"net" => Some(Named::Network),
+        b"key" => Some(Named::Key),
+        b"text" => Some(Named::Text),
+        b"ask" => Some(Named::Ask),
+        b"suggest" => Some(Named::Suggest),
+        b"order" => Some(Named::Order),
+        b"define" => Some(Named::Define),
+        b"use" => Some(Named::Use),
+        b"issue" => Some(Named::Issue),
+        b"status" => Some(Named::Status),
+        b"report" => Some(Named::Report),
+        b"output" => Some(Named::Output),
+        b"room" => Some(Named::Room),
+        _ => None,
     }
 }
 
-fn named_with_o(word: &[u8]) -> Named {
-    if word.len() == 6 {
-        if_same(word, b"output", Named::Output)
-    } else {
-        if_same(word, b"order", Named::Order)
+fn kind_of(word: &[u8]) -> Option<Kind> {
+    match word {
+        b"char" => Some(Kind::Char),
+        b"line" => Some(Kind::Line),
+        b"command" => Some(Kind::Command),
+        _ => None,
     }
 }
 
-fn named_with_r(word: &[u8]) -> Named {
-    if word.len() == 6 {
-        if_same(word, b"report", Named::Report)
-    } else {
-        if_same(word, b"room", Named::Room)
-    }
-}
-
-fn name_of(word: &[u8]) -> Named {
-    if word.len() == 0 {
-        return Named::Unknown;
-    }
-    let first = word[0];
-    match first {
-        b'n' => if_same(word, b"net", Named::Network),
-        b'k' => if_same(word, b"key", Named::Key),
-        b't' => if_same(word, b"text", Named::Text),
-        b'a' => if_same(word, b"ask", Named::Ask),
-        b'd' => if_same(word, b"define", Named::Define),
-        b'u' => if_same(word, b"use", Named::Use),
-        b'i' => if_same(word, b"issue", Named::Issue),
-        b's' => named_with_s(word),
-        b'o' => named_with_o(word),
-        b'r' => named_with_r(word),
-        _ => Named::Unknown,
-    }
-}
-
-fn kind_of(word: &[u8]) -> Kind {
-    if word == b"char".as_slice() {
-        return Kind::Char;
-    }
-    if word == b"line".as_slice() {
-        return Kind::Line;
-    }
-    if word == b"command".as_slice() {
-        Kind::Command
-    } else {
-        Kind::Unknown
-    }
-}
-
-pub fn item_of(kind: Kind, bytes: &[u8]) -> Item {
+pub fn item_of(kind: Kind, bytes: &[u8]) -> Result<Item, BadLine> {
     match kind {
-        Kind::Char => Item::Characters,
+        Kind::Char => Ok(Item::Characters),
         Kind::Line => {
-            if bytes.len() == 0 {
-                Item::One(Key::Line)
-            } else {
-                Item::WrongCount
-            }
+            let [] = hex::exactly::<0>(bytes)?;
+            Ok(Item::One(Key::Line))
         }
         Kind::Command => {
-            if bytes.len() == 1 {
-                Item::One(Key::Command(bytes[0]))
-            } else {
-                Item::WrongCount
-            }
+            let [command] = hex::exactly::<1>(bytes)?;
+            Ok(Item::One(Key::Command(command)))
         }
-        Kind::Unknown => Item::Unknown,
     }
 }
 
-fn has_kind(n: Named) -> bool {
-    match n {
-        Named::Key => true,
-        Named::Text => true,
-        _ => false,
-    }
-}
-
-// The words from a place on.
-pub fn head_at(line: &[u8], at: usize) -> Head
-    requires { at ≤ length line.now }
-    ensures { result.next ≤ length line.now }
-{
-    let from = past_spaces(line, at);
-    let to = past_word(line, from);
-    let named = name_of(&line[from..to]);
-    if !has_kind(named) {
+pub fn head_of(line: &[u8]) -> Head<'_> {
+    let (word, rest) = split_word(line);
+    let named = name_of(word);
+    if !matches!(named, Some(Named::Key | Named::Text)) {
         return Head {
             named,
-            kind: Kind::Unknown,
-            next: to,
+            kind: None,
+            rest,
         };
     }
-    let begin = past_spaces(line, to);
-    let next = past_word(line, begin);
-    let kind = kind_of(&line[begin..next]);
-    Head { named, kind, next }
-}
-
-pub fn is_room(n: Named) -> bool {
-    match n {
-        Named::Room => true,
-        _ => false,
+    let (word, rest) = split_word(rest);
+    Head {
+        named,
+        kind: kind_of(word),
+        rest,
     }
 }

@@ -2,9 +2,10 @@
 #![tactic(auto)]
 
 use std::io::Read;
+use tape_output::TAPE_READ;
 
 fn print_file(rt: &HostRuntime, file: &mut impl Read) {
-    let mut tape = [0u8; 65537];
+    let mut tape = [0u8; TAPE_READ];
     let n = streams::read_full(file, &mut tape);
     if let Err(error) = tape_output::print_tape(rt, &tape[..n]) {
         streams::fail(&rt.stderr(), b"standard output", error);
@@ -12,31 +13,17 @@ fn print_file(rt: &HostRuntime, file: &mut impl Read) {
 }
 
 fn print_named(rt: &HostRuntime, i: usize) {
-    let mut path = [0u8; 65536];
-    let n = match streams::arg(rt, i, &mut path) {
-        Ok(n) => n,
-        Err(error) => {
-            streams::fail(&rt.stderr(), b"an argument", error);
-            return;
-        }
+    let mut room = [0u8; 65536];
+    let Some((path, mut file)) = streams::open_named(rt, &rt.stderr(), i, &mut room) else {
+        return;
     };
-    let mut file = match streams::open_read(rt, &path[..n]) {
-        Ok(file) => file,
-        Err(error) => {
-            streams::fail(&rt.stderr(), &path[..n], error);
-            return;
-        }
-    };
-    let _ = rt.write_all(&path[..n]);
+    let _ = rt.write_all(path);
     let _ = rt.write_all(b"\n");
     print_file(rt, &mut file);
 }
 
 fn main(rt: HostRuntime) {
-    let count = streams::arg_count(&rt);
-    let mut i: usize = 1;
-    while i < count {
+    for i in 1..streams::arg_count(&rt) {
         print_named(&rt, i);
-        i += 1;
     }
 }

@@ -18,7 +18,8 @@ use Rattle.printer.specs.State.{PrinterState, Effect, CallEffect}
 use Rattle.printer.specs.Network.{network_read}
 use Rattle.printer.specs.Session.{Call, called, answers_from}
 use Rattle.printer.specs.NetworkRun.{printer_byte, calls_of}
-use Rattle.printer.proofs.Runs.{lawful, call_done, printer_run_is_calls, calls_answered}
+use Rattle.printer.specs.NetworkEnd.{lawful, call_done}
+use Rattle.printer.proofs.Runs.{printer_run_is_calls, calls_answered}
 use Rattle.read_back.specs.Ends.{NetworkCalls, printer_paper, printer_wire, printer_after}
 use Rattle.read_back.specs.ReadBack.{OnlyPrints}
 use Rattle.read_back.proofs.ReadBack.{all_read_back}

@@ -14,7 +14,7 @@ use Rattle.printer.specs.Network.{network_read}
 use Rattle.printer.specs.Session.{Call, called, answers_from}
 use Rattle.printer.specs.Session.Call.{network, key}
 use Rattle.printer.specs.NetworkRun.{printer_byte, calls_of}
-use Rattle.printer.proofs.Runs.{lawful, call_done, call_refused}
+use Rattle.printer.specs.NetworkEnd.{lawful, call_done, call_refused}
 use Rattle.printer.specs.KeyOrder.{accepts, of_accepted, take_ups}
 use Rattle.noninterference.specs.TwoSessions.{AllUnprinted, AllSameWidth, SameSeen, SameSent}
 use Rattle.printer.proofs.KeyOrder.{Held, fresh_held, onward}

@@ -18,9 +18,9 @@ room-line c = rw c.in-Line.is at c.requires
 pub bounds-out-0 : goal.bounds-out-0
 bounds-out-0 c = room-then c
 
-pub returns-then-prints : goal.returns-then-prints
+pub returns-in-Char : goal.returns-in-Char
 unfolding key_paper
-returns-then-prints c = rw (c.in-Char.is, sym c.prints.ensures ∙ c.if-prints.true) (wrote_start _ _ (room-then c))
+returns-in-Char c = rw (c.in-Char.is, sym c.prints.ensures ∙ c.if-prints.true) (wrote_start _ _ (room-then c))
 
 pub bounds-out-0-in-Line : goal.bounds-out-0-in-Line
 bounds-out-0-in-Line c = omega (arith, room-line c)
@@ -28,13 +28,13 @@ bounds-out-0-in-Line c = omega (arith, room-line c)
 pub bounds-out-1 : goal.bounds-out-1
 bounds-out-1 c = simp length-set (omega (arith, room-line c))
 
-pub returns-else-prints : goal.returns-else-prints
-unfolding key_paper
-returns-else-prints c = rw (c.in-Char.is, sym c.prints.ensures ∙ c.if-prints.false) (wrote_none _)
-
 pub returns-in-Line : goal.returns-in-Line
 unfolding key_paper
 returns-in-Line c = rw c.in-Line.is (wrote_start _ _ (room-line c))
+
+pub returns-in-Char-2 : goal.returns-in-Char-2
+unfolding key_paper
+returns-in-Char-2 c = rw (c.in-Char.is, sym c.prints.ensures ∙ c.if-prints.false) (wrote_none _)
 
 pub returns-in-Command : goal.returns-in-Command
 unfolding key_paper

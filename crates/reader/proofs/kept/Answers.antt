@@ -9,22 +9,21 @@ use borrow.Author.Rules.{rules}
 use Rattle.reader.proofs.kept.Goals as goal
 use mathlib.Core.Path.{◌≡◌, refl}
 
-pub returns-then-len-lt-BODY_ROOM : goal.returns-then-len-lt-BODY_ROOM
+pub returns-then-r-lt-BODY_ROOM : goal.returns-then-r-lt-BODY_ROOM
 unfolding keeping
-returns-then-len-lt-BODY_ROOM c =
-    let start = c in
-    let r = start.args.r in
+returns-then-r-lt-BODY_ROOM c =
+    let r = c.args.r in
     let l : length r.body ≡ 260 = search rules in
     let free : r.len < length r.body = omega arith in
     let n : min r.len 260 ≡ r.len = omega arith in
     let short : length (take r.len r.body) < 260 = simp length-take (omega arith) in
     rw (n, lt-ltb _ _ short)
-    (record { item = refl; view = rw (appended r.body r.len start.args.b free 260 l); clean = clean_appended r.body r.len start.args.b free })
+    (record { item = refl; view = rw (appended r.body r.len c.args.b free 260 l); clean = clean_appended r.body r.len c.args.b free })
 
-pub returns : goal.returns
+pub returns-else-r-lt-BODY_ROOM : goal.returns-else-r-lt-BODY_ROOM
 unfolding keeping
-returns c =
+returns-else-r-lt-BODY_ROOM c =
     let r = c.args.r in
     let l : length r.body ≡ 260 = search rules in
     let full : 260 ≤ length (take (min r.len 260) r.body) = simp length-take (omega arith) in
-    rw (le-ltb _ _ full) c.stepped.ensures
+    rw (le-ltb _ _ full) (record { item = refl; view = refl; clean = λ h. h })

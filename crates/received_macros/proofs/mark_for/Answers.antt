@@ -1,16 +1,15 @@
-use mathlib.Core.Path.{sym}
-use Rattle.received_macros.proofs.Marks.{mark_long, mark_itself, mark_other}
+use Rattle.std.proofs.Common.{true, false, sym, ◌∙◌, ◌≡◌, [], ◌∷◌}
+use lib.Dec.{eqb}
+use lib.Pointwise.{pointwise}
+use Rattle.received_macros.proofs.Marks.{mark_by}
 use Rattle.received_macros.proofs.mark_for.Goals as goal
 
-pub returns-then-text-ne1 : goal.returns-then-text-ne1
-returns-then-text-ne1 c = sym (mark_long c.args.x c.args.text.now c.if-text-ne1.true)
+pub returns-then-itself : goal.returns-then-itself
+returns-then-itself c =
+    let same : pointwise eqb c.args.text.now (c.args.x ∷ []) ≡ true = rw (← c.as_slice.ensures) (sym c.eq-itself.ensures ∙ c.if-itself.true) in
+    rw same at (mark_by c.args.x c.args.text.now)
 
-pub returns-then-text-x : goal.returns-then-text-x
-returns-then-text-x c =
-    let start = c in
-    sym (mark_itself start.args.x start.args.text.now c.if-text-ne1.false c.if-text-x.true)
-
-pub returns-else-text-x : goal.returns-else-text-x
-returns-else-text-x c =
-    let start = c in
-    sym (mark_other start.args.x start.args.text.now c.if-text-ne1.false c.if-text-x.false)
+pub returns-else-itself : goal.returns-else-itself
+returns-else-itself c =
+    let other : pointwise eqb c.args.text.now (c.args.x ∷ []) ≡ false = rw (← c.as_slice.ensures) (sym c.eq-itself.ensures ∙ c.if-itself.false) in
+    rw other at (mark_by c.args.x c.args.text.now)

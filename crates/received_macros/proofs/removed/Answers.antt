@@ -10,4 +10,4 @@ returns c =
     let a = c.args in
     let l : length a.t.marks ≡ 256 = search rules in
     let k : length a.t.cells ≡ 1024 = search rules in
-    freed_met a.t a.x k (omega (arith, view_length a.t l)) c.define_text-defined.result c.define_text-defined.ensures
+    rw c.unwrap_or.ensures (freed_met a.t a.x k (omega (arith, view_length a.t l)) c.define_text.result c.define_text.ensures)

@@ -1,25 +1,9 @@
-use mathlib.Core.Path.{◌≡◌}
-use native.Mathlib.Omega.{arith}
-use lib.ListN.{length, length-take}
-use Rattle.received_macros.proofs.Copying.{copied_three}
-use borrow.Author.Rules.{rules}
+use Rattle.received_macros.proofs.Copying.{packed}
 use Rattle.received_macros.proofs.repacked.Goals as goal
-
-pub slice_bounds-pasted-end : goal.slice_bounds-pasted-end
-slice_bounds-pasted-end c =
-    let l : length c.args.cells ≡ 1024 = search rules in
-    simp length-take (omega arith)
-
-pub pasted-first-requires : goal.pasted-first-requires
-pasted-first-requires c =
-    let l : length c.args.cells ≡ 1024 = search rules in
-    simp length-take (omega arith)
 
 pub returns : goal.returns
 returns c =
-    let first = c in
-    let a = first.args in
-    let p = first.requires in
-    let l : length a.cells ≡ 1024 = search rules in
-    copied_three a.cells a.part.now _ _ _ a.start a.end a.total l p.0 p.1 p.2 p.3
-    first.pasted-first.ensures c.pasted-second.ensures c.pasted.ensures
+    let a = c.args in
+    let p = c.requires in
+    rw (c.copy_from_slice.ensures.after, c.copy_from_slice-2.ensures.after, c.copy_from_slice-3.ensures.after)
+    (packed a.cells.now a.part.now a.start a.end a.total c.told-cells p.0 p.1 p.2 p.3)

@@ -5,15 +5,14 @@ use Rattle.received_macros.proofs.View.{lengths_all, settled_over, settled_withi
 use borrow.Author.Rules.{rules}
 use Rattle.received_macros.proofs.settled.Goals as goal
 
-pub returns-then-end-gt-ROOM : goal.returns-then-end-gt-ROOM
-returns-then-end-gt-ROOM c =
+pub returns-then-start_of-gt-ROOM : goal.returns-then-start_of-gt-ROOM
+returns-then-start_of-gt-ROOM c =
     let t = c.args.t in
     let l : length t.marks ≡ 256 = search rules in
-    let e = c.start_of-end.ensures in
-    rw c.empty.ensures (settled_over t (omega (arith, e, lengths_all t.marks l)))
+    rw c.empty.ensures (settled_over t (omega (arith, c.start_of.ensures, lengths_all t.marks l)))
 
 pub returns : goal.returns
 returns c =
     let t = c.args.t in
     let l : length t.marks ≡ 256 = search rules in
-    settled_within t (omega (arith, c.start_of-end.ensures, lengths_all t.marks l))
+    settled_within t (omega (arith, c.start_of.ensures, lengths_all t.marks l))

@@ -12,8 +12,8 @@ returns-then-end-gt-ROOM c =
     let l : length t.marks ≡ 256 = search rules in
     sym (total_over t (omega (arith, c.start_of-end.ensures, lengths_all t.marks l)))
 
-pub returns : goal.returns
-returns c =
+pub returns-else-end-gt-ROOM : goal.returns-else-end-gt-ROOM
+returns-else-end-gt-ROOM c =
     let t = c.args.t in
     let l : length t.marks ≡ 256 = search rules in
     let k : length t.cells ≡ 1024 = search rules in

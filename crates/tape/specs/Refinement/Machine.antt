@@ -7,9 +7,7 @@ use Rattle.printer.specs.Refinement.{view_printer, CleanPrinter, fresh_cells}
 use Rattle.tape.specs.declared.Machine.{Machine}
 use Rattle.tape.specs.declared.Shown.{Shown}
 use Rattle.tape.specs.declared.Stepped.{Stepped}
-use Rattle.tape.specs.declared.Place.{Place}
-use Rattle.tape.specs.Fields.{item_of}
-use Rattle.tape.specs.Running.{lent_paper, lent_wire, item_call}
+use Rattle.tape.specs.Running.{lent_paper, lent_wire}
 use Rattle.tape.specs.Refinement.Steps.{At, Progress, start}
 
 abbrev pub view_machine : Machine → At
@@ -17,10 +15,6 @@ view_machine m = record {
   run = record { printer = view_printer m.printer; tails = record { paper = lent_paper - m.paper; wire = lent_wire - m.wire } };
   place = m.place;
 }
-
--- the call of the item at a place, by the two bytes that stand there
-abbrev pub item_at : rule.PrinterState → Place → ℕ → ℕ → ℕ → ℕ → rule.CallEffect
-item_at s p a b = item_call s (item_of p.tag a b)
 
 -- an item: its line, its bytes in the two lent buffers, and the state
 pub record RefinesShown (a : rule.CallEffect) (bytes : List ℕ) (p : Printer) (paper wire out : Lent) (r : Shown) : Type 0 where

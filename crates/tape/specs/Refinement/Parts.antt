@@ -1,11 +1,9 @@
 -- The parts that a line is written in.
 use Rattle.std.specs.Prelude.{List, [], ◌∷◌, ◌++◌, ℕ}
-use Rattle.tape.specs.Lines.{decimal, hex_of}
+use Rattle.decimals.specs.Decimals.{number_then}
+use Rattle.tape.specs.Lines.{hex_of}
 
--- a number or bytes, and the byte that parts them from what follows
-unfoldable pub number_then : ℕ → ℕ → List ℕ
-number_then n then = decimal n ++ then ∷ []
-
+-- bytes, and the byte that parts them from what follows
 unfoldable pub hex_then : List ℕ → ℕ → List ℕ
 hex_then bytes then = hex_of bytes ++ then ∷ []
 

@@ -1,15 +1,23 @@
 -- Where a run stands, and one step of it: it looks up the next field, or does one item.
-use Rattle.std.specs.Prelude.{◌≡◌, Bool, true, false, ◌&&◌, ◌||◌, cond, List, [], ◌++◌, ℕ, ◌+◌, ◌-◌, ◌<◌, length, get_or, ltb, eqb}
-use Rattle.tape.specs.declared.Found.{Found}
-use Rattle.tape.specs.declared.Found.TheVariants.{Field, End, Bad}
+use Rattle.std.specs.Prelude.{◌≡◌, Bool, true, false, ◌&&◌, ◌||◌, cond, List, [], ◌++◌, ℕ, ◌+◌, ◌-◌, ◌<◌, length, get_or, ltb, eqb, Option, Some, None, Ok, Err}
+use Rattle.tape.specs.declared.Tag.{Tag}
+use Rattle.tape.specs.declared.Tag.TheVariants.{Network, Keys, Asks}
+use Rattle.tape.specs.declared.Field.{Field}
+use Rattle.tape.specs.declared.Item.{Item}
 use Rattle.tape.specs.declared.Place.{Place}
-use Rattle.tape.specs.Fields.{found_at, part_of, fields_at, Item, item_of, items_of}
+use Rattle.tape.specs.Fields.{Found, found_at, part_of, fields_at, tag_number, kind_of, item_of, items_of}
 use Rattle.tape.specs.Lines.{answer_line, bad_tape}
 use Rattle.tape.specs.Running.{TapeRun, begun, with_room, item_answer, after_item, ran_then, items_run, fields_run, tape_room, tape_output}
 
 -- how many bytes an item takes up
-abbrev pub width : ℕ → ℕ
-width tag = cond (eqb tag 1) 1 2
+abbrev pub width : Tag → ℕ
+width Network = 1
+width Keys = 2
+width Asks = 2
+
+-- the item that a body begins with, if one is left of it
+abbrev pub next_item : Tag → List ℕ → Option Item
+next_item tag body = cond (ltb (length body) (width tag)) None (Some (item_of tag (get_or body 0 0) (get_or body 1 0)))
 
 -- a run, and where it stands
 pub record At : Type 0 where
@@ -27,7 +35,7 @@ rest_at tape p = part_of tape p.at p.left
 abbrev pub lines_left : List ℕ → At → List ℕ
 lines_left tape a =
     let p = a.place in
-    (ran_then (items_run p.field p.item a.run (items_of p.tag (rest_at tape p))) (λ r. fields_run (p.field + 1) r (fields_at tape p.next))).lines
+    (ran_then (items_run p.field p.item a.run (items_of (kind_of p.tag) (rest_at tape p))) (λ r. fields_run (p.field + 1) r (fields_at tape p.next))).lines
 
 -- a tape that is too long is bad as a whole, which is told in front of its first field
 unfoldable pub is_too_long : List ℕ → Place → Bool
@@ -45,18 +53,10 @@ abbrev pub goes : List ℕ → TapeRun → Place → Progress
 goes lines r p = record { lines = lines; at = record { run = r; place = p } }
 
 abbrev pub at_tape_end : Place → Place
-at_tape_end p = record { field = p.field; item = p.item; tag = p.tag; at = p.at; left = p.left; next = p.next; over = true }
+at_tape_end p = record p { over = true }
 
 abbrev pub past_item : Place → Place
-past_item p = record {
-  field = p.field;
-  item = p.item + 1;
-  tag = p.tag;
-  at = p.at + width p.tag;
-  left = p.left - width p.tag;
-  next = p.next;
-  over = false;
-}
+past_item p = record p { item = p.item + 1; at = p.at + width (kind_of p.tag); left = p.left - width (kind_of p.tag); over = false }
 
 -- one item, and the place behind it
 abbrev pub item_step : At → Place → Item → Progress
@@ -66,21 +66,21 @@ item_step a after i =
     goes (answer_line a.place.field a.place.item answer) (after_item lent answer) after
 
 -- in front of a field's first item
-abbrev pub first_item : (field tag start size next : ℕ) → Place
-first_item field tag start size next = record { field = field; item = 1; tag = tag; at = start; left = size; next = next; over = false }
+abbrev pub first_item : ℕ → Field → Place
+first_item number f = record { field = number; item = 1; tag = tag_number f.tag; at = f.start; left = f.size; next = f.next.at; over = false }
 
 abbrev pub field_step : At → Found → Progress
-field_step a End = goes [] a.run (at_tape_end a.place)
-field_step a Bad = goes (bad_tape (a.place.field + 1)) a.run (at_tape_end a.place)
-field_step a (Field tag start size cursor) = goes [] a.run (first_item (a.place.field + 1) tag start size cursor.at)
+field_step a (Ok None) = goes [] a.run (at_tape_end a.place)
+field_step a (Err e) = goes (bad_tape (a.place.field + 1)) a.run (at_tape_end a.place)
+field_step a (Ok (Some f)) = goes [] a.run (first_item (a.place.field + 1) f)
 
 -- the next item of the field, or the next field
 unfoldable pub next_step : List ℕ → At → Progress
 next_step tape a =
     let p = a.place in
     let rest = rest_at tape p in
-    cond (ltb (length rest) (width p.tag)) (field_step a (found_at tape p.next))
-    (item_step a (past_item p) (item_of p.tag (get_or rest 0 0) (get_or rest 1 0)))
+    cond (ltb (length rest) (width (kind_of p.tag))) (field_step a (found_at tape p.next))
+    (item_step a (past_item p) (item_of (kind_of p.tag) (get_or rest 0 0) (get_or rest 1 0)))
 
 unfoldable pub stepped : List ℕ → At → Progress
 stepped tape a =

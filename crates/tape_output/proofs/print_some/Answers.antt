@@ -6,5 +6,5 @@ use Rattle.tape_output.proofs.print_some.Goals as goal
 
 pub returns : goal.returns
 returns g c =
-    let place = ap (λ (a : At). a.place) c.run-s.ensures.view in
+    let place = ap (λ (a : At). a.place) c.run-step.ensures.view in
     λ going. rw place (ran_falls c.args.tape.now (view_machine c.args.m) (length c.args.out.now) going c.requires)

@@ -34,40 +34,29 @@ module _ (body : List ℕ) where
           → WroteAtStart (doubled (take (i + 1) body)) (with_rest out n last) (n + k)
       turn {last} {k} v = rw (flat_map_next coded body i 0 lt) (wrote_then w fits (coded (get_or body i 0)) last k v)
 
-pub loop-i-init : goal.loop-i-init
+pub loop-b-init : goal.loop-b-init
 unfolding flat_map
-loop-i-init c = (omega arith, wrote_none _)
+loop-b-init c = wrote_none _
 
 pub slice_bounds-put_coded-count : goal.slice_bounds-put_coded-count
-slice_bounds-put_coded-count c =
-    let start = c in
-    let loop = c.loop-i in
-    within start.args.body.now start.requires loop.i loop.invariant.1
+slice_bounds-put_coded-count c = within c.args.body.now c.requires c.loop-b.b-index c.loop-b.invariant
 
 pub slice_bounds-put_coded-start : goal.slice_bounds-put_coded-start
-slice_bounds-put_coded-start c = slice_bounds-put_coded-count c
+slice_bounds-put_coded-start c = within c.args.body.now c.requires c.loop-b.b-index c.loop-b.invariant
 
-pub put_coded-w-requires : goal.put_coded-w-requires
-put_coded-w-requires c =
-    let start = c in
-    let loop = c.loop-i in
-    room_next start.args.body.now start.requires loop.i loop.invariant.1 c.loop-i-test.true
+pub put_coded-n-requires : goal.put_coded-n-requires
+put_coded-n-requires c = room_next c.args.body.now c.requires c.loop-b.b-index c.loop-b.invariant c.loop-b-test.true
 
 pub overflow_add-n : goal.overflow_add-n
 overflow_add-n c =
-    let a = c in
-    let start = a in
-    let body = start.args.body.now in
-    let wrote = turn body start.requires a.loop-i.i a.loop-i.invariant.1 c.loop-i-test.true c.put_coded-w.ensures in
-    omega (arith, counted wrote (room-begin body (a.loop-i.i + 1) start.args.out.now start.requires), start.well_formed.1.0.0)
+    let body = c.args.body.now in
+    let wrote = turn body c.requires c.loop-b.b-index c.loop-b.invariant c.loop-b-test.true c.put_coded-n.ensures in
+    omega (arith, counted wrote (room-begin body (c.loop-b.b-index + 1) c.args.out.now c.requires), c.well_formed.1.0.0)
 
-pub loop-i-preserved : goal.loop-i-preserved
-loop-i-preserved c =
-    let a = c in
-    let start = a in
-    (omega arith, turn start.args.body.now start.requires a.loop-i.i a.loop-i.invariant.1 c.loop-i-test.true c.put_coded-w.ensures)
+pub loop-b-preserved : goal.loop-b-preserved
+loop-b-preserved c = turn c.args.body.now c.requires c.loop-b.b-index c.loop-b.invariant c.loop-b-test.true c.put_coded-n.ensures
 
 pub returns : goal.returns
 returns c =
-    let e : c.loop-i.i ≡ length c.args.body.now = omega arith in
-    rw take-length at (rw e at c.loop-i.invariant.1)
+    let e : c.loop-b.b-index ≡ length c.args.body.now = omega arith in
+    rw take-length at (rw e at c.loop-b.invariant)

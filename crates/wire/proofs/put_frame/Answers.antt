@@ -1,130 +1,58 @@
-use Rattle.wire.specs.Frames.{doubled, frame}
-use Rattle.lists.proofs.Parts.{wrote_then, wrote_more, same_long, part_room}
-use Rattle.lists.proofs.Starts.{wrote_start}
-use Rattle.lists.specs.Buffers.{lent_as, WroteAtStart, RoomFor}
-use borrow.Rule.Slice.PartMut.{put_mid}
-use lib.ListN.{length, take, drop, set, length-append, length-set}
-use Prim.Native.Nat.{ℕ, ◌≤◌, ◌<◌, ◌-◌, ◌+◌}
-use mathlib.Core.List.{List, [], ◌∷◌, ◌++◌, append_assoc}
-use mathlib.Core.Path.{◌≡◌}
+use mathlib.Core.List.{List, [], ◌∷◌, ◌++◌}
+use Prim.Native.Nat.{ℕ, ◌≤◌, ◌+◌}
 use native.Mathlib.Omega.{arith}
+use lib.ListN.{length, length-append}
+use Rattle.lists.specs.Buffers.{lent_as, WroteAtStart, RoomFor}
+use Rattle.lists.proofs.Parts.{rest_of, with_rest, wrote_then, part_room}
+use Rattle.wire.specs.Frames.{doubled, frame}
 use Rattle.wire.proofs.put_frame.Goals as goal
 
-module _ (body before : List ℕ) (room : RoomFor (frame body) before) where
+-- IAC SB, and IAC SE
+abbrev start : List ℕ
+start = 255 ∷ 250 ∷ []
+
+abbrev end : List ℕ
+end = 255 ∷ 240 ∷ []
+
+module _ (body out : List ℕ) (room : RoomFor (frame body) out) where
   -- a frame is four bytes longer than its doubled body
-  room-all : length (doubled body) + 4 ≤ length before
+  room_all : length (doubled body) + 4 ≤ length out
   unfolding frame
-  room-all = omega (arith, simp length-append at room)
+  room_all = omega (arith, simp length-append at room)
 
-  -- IAC SB
-  opened : List ℕ
-  opened = set (set before 0 255) 1 250
+  room_start : RoomFor start out
+  room_start = omega (arith, room_all)
 
-  opened-wrote : WroteAtStart (255 ∷ 250 ∷ []) (lent_as before opened) 2
-  unfolding opened
-  opened-wrote = wrote_start (255 ∷ 250 ∷ []) before (omega (arith, room-all))
+  room_body : RoomFor (start ++ doubled body) out
+  room_body = simp length-append (omega (arith, room_all))
 
-  room-two : RoomFor (255 ∷ 250 ∷ []) before
-  room-two = omega (arith, room-all)
+  room_end : RoomFor ((start ++ doubled body) ++ end) out
+  room_end = simp length-append (omega (arith, room_all))
 
-  room-body : RoomFor (doubled body) (take (length opened - 2) (drop 2 opened))
-  room-body = part_room opened-wrote room-two (doubled body) (simp length-append (omega (arith, room-all)))
+  module _ {o : List ℕ} {n : ℕ} (begun : WroteAtStart start (lent_as out o) n) where
+    body_fits : RoomFor (doubled body) (rest_of (lent_as out o) n)
+    body_fits = part_room begun room_start (doubled body) room_body
 
-  module _ (last : List ℕ) (k : ℕ) (v : WroteAtStart (doubled body) (lent_as (take (length opened - 2) (drop 2 opened)) last) k) where
-    filled : List ℕ
-    filled = put_mid 2 (length opened - 2) opened last
+    module _ {p : List ℕ} {m : ℕ} (inside : WroteAtStart (doubled body) (lent_as (rest_of (lent_as out o) n) p) m) where
+      filled : WroteAtStart (start ++ doubled body) (with_rest (lent_as out o) n p) (n + m)
+      filled = wrote_then begun room_start (doubled body) p m inside
 
-    filled-wrote : WroteAtStart ((255 ∷ 250 ∷ []) ++ doubled body) (lent_as before filled) (2 + k)
-    unfolding filled
-    filled-wrote = wrote_then opened-wrote room-two (doubled body) last k v
+      end_fits : RoomFor end (rest_of (with_rest (lent_as out o) n p) (n + m))
+      end_fits = part_room filled room_body end room_end
 
-    room-filled : RoomFor ((255 ∷ 250 ∷ []) ++ doubled body) before
-    room-filled = simp length-append (omega (arith, room-all))
+      closed : (q : List ℕ) (k : ℕ) → WroteAtStart end (lent_as (rest_of (with_rest (lent_as out o) n p) (n + m)) q) k
+          → WroteAtStart (frame body) (with_rest (with_rest (lent_as out o) n p) (n + m) q) (n + m + k)
+      unfolding frame
+      closed q k last = wrote_then filled room_body end q k last
 
-    -- and the count, which is within the buffer with two bytes to spare
-    spare : k + 4 ≤ length before
-    spare = omega (arith, v.count, room-all)
-
-    long : length filled ≡ length before
-    long = same_long filled-wrote room-filled
-
-    room-last : k + 2 + 1 < length (set filled (k + 2) 255)
-    room-last = simp length-set (omega (arith, spare, long))
-
-    same : length (set (set filled (k + 2) 255) (k + 2 + 1) 240) ≡ length before
-    same = simp length-set long
-
-    closed-wrote : WroteAtStart (frame body) (lent_as before (set (set filled (k + 2) 255) (k + 2 + 1) 240)) (k + 4)
-    unfolding frame
-    closed-wrote =
-        let s = spare in
-        let a : 2 + k ≡ k + 2 = omega arith in
-        let two = rw a at filled-wrote in
-        let three = wrote_more two room-filled 255 (omega arith) in
-        let four = wrote_more three (simp length-append (omega (arith, room-all))) 240 (omega arith) in
-        let d : k + 2 + 1 + 1 ≡ k + 4 = omega arith in
-        rw (append_assoc (doubled body) (255 ∷ []) (240 ∷ [])) at (rw d at four)
-
-pub bounds-out-0 : goal.bounds-out-0
-bounds-out-0 c = omega (arith, room-all c.args.body.now c.args.out.now c.requires)
-
-pub bounds-out-1 : goal.bounds-out-1
-bounds-out-1 c = simp length-set (omega (arith, room-all c.args.body.now c.args.out.now c.requires))
-
-pub slice_bounds-put_doubled-count : goal.slice_bounds-put_doubled-count
-slice_bounds-put_doubled-count c = simp length-set (omega (arith, room-all c.args.body.now c.args.out.now c.requires))
-
-pub slice_bounds-put_doubled-start : goal.slice_bounds-put_doubled-start
-slice_bounds-put_doubled-start c = simp length-set (omega (arith, room-all c.args.body.now c.args.out.now c.requires))
+pub put_bytes-n-requires : goal.put_bytes-n-requires
+put_bytes-n-requires c = room_start c.args.body.now c.args.out.now c.requires
 
 pub put_doubled-n-requires : goal.put_doubled-n-requires
-unfolding opened
-put_doubled-n-requires c = room-body c.args.body.now c.args.out.now c.requires
+put_doubled-n-requires c = body_fits c.args.body.now c.args.out.now c.requires c.put_bytes-n.ensures
 
-pub overflow_add-at : goal.overflow_add-at
-unfolding opened
-overflow_add-at c =
-    let start = c in
-    let a = start.args in
-    let put-doubled = c.put_doubled-n in
-    omega (arith, spare a.body.now a.out.now start.requires put-doubled.new.out put-doubled.result put-doubled.ensures, start.well_formed.1.0.0)
-
-pub bounds-out-at : goal.bounds-out-at
-unfolding opened filled
-bounds-out-at c =
-    let start = c in
-    let a = start.args in
-    let put-doubled = c.put_doubled-n in
-    omega (arith, spare a.body.now a.out.now start.requires put-doubled.new.out put-doubled.result put-doubled.ensures, long a.body.now a.out.now start.requires put-doubled.new.out put-doubled.result put-doubled.ensures)
-
-pub overflow_add-out : goal.overflow_add-out
-unfolding opened
-overflow_add-out c =
-    let start = c in
-    let a = start.args in
-    let put-doubled = c.put_doubled-n in
-    omega (arith, spare a.body.now a.out.now start.requires put-doubled.new.out put-doubled.result put-doubled.ensures, start.well_formed.1.0.0)
-
-pub bounds-out-at-2 : goal.bounds-out-at-2
-unfolding opened filled
-bounds-out-at-2 c =
-    let start = c in
-    let a = start.args in
-    let put-doubled = c.put_doubled-n in
-    room-last a.body.now a.out.now start.requires put-doubled.new.out put-doubled.result put-doubled.ensures
-
-pub overflow_add-result : goal.overflow_add-result
-unfolding opened
-overflow_add-result c =
-    let start = c in
-    let a = start.args in
-    let put-doubled = c.put_doubled-n in
-    omega (arith, spare a.body.now a.out.now start.requires put-doubled.new.out put-doubled.result put-doubled.ensures, start.well_formed.1.0.0)
+pub put_bytes-requires : goal.put_bytes-requires
+put_bytes-requires c = end_fits c.args.body.now c.args.out.now c.requires c.put_bytes-n.ensures c.put_doubled-n.ensures
 
 pub returns : goal.returns
-unfolding opened filled
-returns c =
-    let start = c in
-    let a = start.args in
-    let put-doubled = c.put_doubled-n in
-    closed-wrote a.body.now a.out.now start.requires put-doubled.new.out put-doubled.result put-doubled.ensures
+returns c = closed c.args.body.now c.args.out.now c.requires c.put_bytes-n.ensures c.put_doubled-n.ensures _ _ c.put_bytes.ensures

@@ -1,19 +1,19 @@
 use mathlib.Core.Path.{ap}
 use Rattle.reader.specs.Refinement.{view_reader}
+use Rattle.reader.proofs.IdleReader.{idle_clean}
 use Rattle.bulletin.specs.Refinement.{view_bulletin}
 use Rattle.bulletin.proofs.Bodies.{body_end}
-use Rattle.reader.proofs.IdleReader.{idle_clean}
 use Rattle.bulletin.proofs.body.body_read.Goals as goal
 
 pub handled-requires : goal.handled-requires
 handled-requires c =
-    rw (body_end (view_bulletin c.args.s) (view_reader c.idle-empty.result) c.body_checked-checked.result (ap view_reader c.idle-empty.ensures) c.body_checked-checked.ensures, ← c.body_len-n.ensures) at c.requires
+    rw (body_end (view_bulletin c.args.s) (view_reader c.idle.result) c.body_checked-checked.result (ap view_reader c.idle.ensures) c.body_checked-checked.ensures, ← c.body_len.ensures) at c.requires
 
 pub returns : goal.returns
 returns c =
-    rw (body_end (view_bulletin c.args.s) (view_reader c.idle-empty.result) c.body_checked-checked.result (ap view_reader c.idle-empty.ensures) c.body_checked-checked.ensures, ← c.body_len-n.ensures)
+    rw (body_end (view_bulletin c.args.s) (view_reader c.idle.result) c.body_checked-checked.result (ap view_reader c.idle.ensures) c.body_checked-checked.ensures, ← c.body_len.ensures)
     (record {
       met = λ host.
           let e = c.handled.ensures.met host in
-          record { note = e.note; given = e.given; sent = e.sent; view = e.view; clean = λ k. e.clean (record { reader = rw c.idle-empty.ensures idle_clean; table = k.table }) };
+          record { note = e.note; given = e.given; sent = e.sent; view = e.view; clean = λ k. e.clean (record { reader = rw c.idle.ensures idle_clean; table = k.table }) };
     })

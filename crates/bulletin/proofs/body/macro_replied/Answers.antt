@@ -6,8 +6,9 @@ use Rattle.issues.proofs.Bare.{kept_bare}
 use Rattle.bulletin.proofs.Meeting.{met_step, met_macros}
 use Rattle.bulletin.proofs.body.macro_replied.Goals as goal
 
-pub returns-in-PleaseCancel : goal.returns-in-PleaseCancel
-returns-in-PleaseCancel c =
-    let kept : let a = c.args in c.kept_after-issues.result ≡ kept_after (view_table a.s.table) a.s.issues a.reply = let a = c.args in c.kept_after-issues.ensures ∙ kept_bare a.s.table a.s.issues a.reply in
-    rw (c.step-in-PleaseCancel.ensures, c.with_macros-in-PleaseCancel.ensures, kept, c.in-PleaseCancel.is)
-    (met_step Clear (met_macros c.cancel-c.ensures.table _) c.cancel-c.ensures.wire)
+pub returns : goal.returns
+returns c =
+    let a = c.args in
+    let kept : c.kept_after.result ≡ kept_after (view_table a.s.table) a.s.issues a.reply = c.kept_after.ensures ∙ kept_bare a.s.table a.s.issues a.reply in
+    let table = c.table_answered-answered.ensures in
+    rw (c.sends.ensures, kept) (met_step Clear (met_macros table.view table.clean _) table.sent)

@@ -16,25 +16,25 @@ pub returns-then-no_wire : goal.returns-then-no_wire
 unfolding ask_call guarded
 returns-then-no_wire c = rw (sym c.no_wire.ensures ∙ c.if-no_wire.true, c.refused.ensures) refused_on_wire
 
-pub moved_with_reply-step-requires : goal.moved_with_reply-step-requires
-moved_with_reply-step-requires c =
+pub moved_with_reply-requires : goal.moved_with_reply-requires
+moved_with_reply-requires c =
     let has_room : no_wire (length c.args.wire.now) ≡ false = sym c.no_wire.ensures ∙ c.if-no_wire.false in
     let a = c.args in
-    let moves = c.in-Moves in
-    let bytes = reply_bytes c.asked_whose-whose.result moves.reply a.option in
-    room_on_wire (side_moved (view_bulletin a.s) c.asked_side-side.result moves.q bytes).wire a.wire.now has_room
-    (move_fits (view_bulletin a.s) c.asked_side-side.result moves.q bytes (reply_long c.asked_whose-whose.result moves.reply a.option)).wire
+    let asked = c.in-Ok.asked in
+    let bytes = reply_bytes c.asked_whose.result asked.reply a.option in
+    room_on_wire (side_moved (view_bulletin a.s) c.asked_side-side.result asked.next bytes).wire a.wire.now has_room
+    (move_fits (view_bulletin a.s) c.asked_side-side.result asked.next bytes (reply_long c.asked_whose.result asked.reply a.option)).wire
 
-pub returns-in-Refused : goal.returns-in-Refused
+pub returns-in-Err : goal.returns-in-Err
 unfolding ask_call guarded
-returns-in-Refused c =
+returns-in-Err c =
     let has_room : no_wire (length c.args.wire.now) ≡ false = sym c.no_wire.ensures ∙ c.if-no_wire.false in
-    rw (has_room, ← c.asked_enable-enable.ensures, ← c.asked_side-side.ensures, sym c.asking_of-asking.ensures ∙ c.in-Refused.is, c.refused-in-Refused.ensures)
+    rw (has_room, ← c.asked_enable.ensures, ← c.asked_side-side.ensures, sym c.asking_of.ensures ∙ c.in-Err.is, c.refused-in-Err.ensures)
     refused_on_wire
 
-pub returns-in-Moves : goal.returns-in-Moves
+pub returns-in-Ok : goal.returns-in-Ok
 unfolding ask_call guarded
-returns-in-Moves c =
+returns-in-Ok c =
     let has_room : no_wire (length c.args.wire.now) ≡ false = sym c.no_wire.ensures ∙ c.if-no_wire.false in
-    rw (has_room, ← c.asked_whose-whose.ensures, ← c.asked_enable-enable.ensures, ← c.asked_side-side.ensures, sym c.asking_of-asking.ensures ∙ c.in-Moves.is, c.done.ensures.0)
-    (done_on_wire refl c.moved_with_reply-step.ensures c.done.ensures.1)
+    rw (has_room, ← c.asked_whose.ensures, ← c.asked_enable.ensures, ← c.asked_side-side.ensures, sym c.asking_of.ensures ∙ c.in-Ok.is, c.done.ensures.0)
+    (done_on_wire refl c.moved_with_reply.ensures c.done.ensures.1)

@@ -14,8 +14,8 @@ pub returns-then-no_room : goal.returns-then-no_room
 unfolding network_call guarded
 returns-then-no_room c = rw (sym c.no_room.ensures ∙ c.if-no_room.true, c.refused.ensures) met_refused
 
-pub network_read-step-requires : goal.network_read-step-requires
-network_read-step-requires c =
+pub network_read-requires : goal.network_read-requires
+network_read-requires c =
     let has_room : no_room (length c.args.host.now) (length c.args.wire.now) ≡ false = sym c.no_room.ensures ∙ c.if-no_room.false in
     let a = c.args in
     let both = room_for (network_read (view_bulletin a.s) a.b) a.host.now a.wire.now has_room (network_fits (view_bulletin a.s) a.b) in
@@ -25,4 +25,4 @@ pub returns : goal.returns
 unfolding network_call guarded
 returns c =
     let has_room : no_room (length c.args.host.now) (length c.args.wire.now) ≡ false = sym c.no_room.ensures ∙ c.if-no_room.false in
-    rw (has_room, c.done.ensures.0) (met_done c.network_read-step.ensures c.done.ensures.1)
+    rw (has_room, c.done.ensures.0) (met_done c.network_read.ensures c.done.ensures.1)

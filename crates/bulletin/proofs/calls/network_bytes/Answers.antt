@@ -2,7 +2,8 @@ use mathlib.Core.Path.{sym, ◌∙◌}
 use lib.ListN.{length}
 use Rattle.reader.proofs.NetworkRun.{run_begun}
 use Rattle.bulletin.specs.Refinement.{view_bulletin}
-use Rattle.bulletin.proofs.Runs.{lawful, refines_refused}
+use Rattle.bulletin.specs.NetworkEnd.{lawful}
+use Rattle.bulletin.proofs.Runs.{refines_refused}
 use Rattle.bulletin.proofs.calls.network_bytes.Goals as goal
 
 pub returns-then-cannot_begin : goal.returns-then-cannot_begin

@@ -24,10 +24,10 @@ pub returns-in-Some : goal.returns-in-Some
 unfolding suggest_call guarded
 returns-in-Some c =
     let has_room : no_wire (length c.args.wire.now) ≡ false = sym c.no_wire.ensures ∙ c.if-no_wire.false in
-    rw (has_room, sym c.disposition_numbered-found.ensures ∙ c.in-Some.is) c.suggest_of.ensures
+    rw (has_room, sym c.disposition_numbered.ensures ∙ c.in-Some.is) c.suggest_of.ensures
 
 pub returns-in-None : goal.returns-in-None
 unfolding suggest_call guarded
 returns-in-None c =
     let has_room : no_wire (length c.args.wire.now) ≡ false = sym c.no_wire.ensures ∙ c.if-no_wire.false in
-    rw (has_room, sym c.disposition_numbered-found.ensures ∙ c.in-None.is, c.refused-in-None.ensures) refused_on_wire
+    rw (has_room, sym c.disposition_numbered.ensures ∙ c.in-None.is, c.refused-in-None.ensures) refused_on_wire

@@ -9,4 +9,4 @@ put_reply-n-requires c = c.requires
 
 pub returns : goal.returns
 unfolding side_moved
-returns c = rw c.step.ensures (met_step Clear c.side_moved-t.ensures c.put_reply-n.ensures)
+returns c = rw c.sends.ensures (met_step Clear c.side_moved.ensures c.put_reply-n.ensures)

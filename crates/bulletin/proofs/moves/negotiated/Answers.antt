@@ -7,5 +7,4 @@ moved_with_reply-requires c = rw (← c.heard_by-turn.ensures) at c.requires
 
 pub returns : goal.returns
 unfolding negotiation_read
-returns c =
-    rw (← c.heard_by-turn.ensures) c.moved_with_reply.ensures
+returns c = rw (← c.heard_by-turn.ensures) c.moved_with_reply.ensures

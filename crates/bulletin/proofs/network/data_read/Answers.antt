@@ -10,12 +10,13 @@ bounds-host-0 c = c.requires
 pub returns : goal.returns
 unfolding data_read
 returns c =
-    record {
+    rw (c.sends.ensures, c.all.ensures)
+    (record {
       met = λ wire. record {
         note = refl;
         given = wrote_start _ _ c.requires;
         sent = wrote_none wire;
-        view = rw c.no_waits-waits.ensures;
+        view = refl;
         clean = λ k. record { reader = k.reader; table = k.table };
       };
-    }
+    })

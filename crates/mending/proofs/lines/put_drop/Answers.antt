@@ -5,12 +5,12 @@ use Rattle.mending.proofs.lines.put_drop.Goals as goal
 
 pub put_line-requires : goal.put_line-requires
 put_line-requires c =
-    rw (c.in-Dropped.is, flat_map_one) at c.requires
+    rw (c.in-Err.is, flat_map_one) at c.requires
 
-pub returns-in-Copied : goal.returns-in-Copied
+pub returns-in-Ok : goal.returns-in-Ok
 unfolding flat_map
-returns-in-Copied c = rw c.in-Copied.is (wrote_none _)
+returns-in-Ok c = rw c.in-Ok.is (wrote_none _)
 
-pub returns-in-Dropped : goal.returns-in-Dropped
-returns-in-Dropped c =
-    rw (c.in-Dropped.is, flat_map_one) c.put_line.ensures
+pub returns-in-Err : goal.returns-in-Err
+returns-in-Err c =
+    rw (c.in-Err.is, flat_map_one) c.put_line.ensures

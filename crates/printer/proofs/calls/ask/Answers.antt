@@ -15,27 +15,27 @@ unfolding ask_call guarded
 returns-then-no_room c =
     rw (sym c.no_room.ensures ∙ c.if-no_room.true, c.refused.ensures) met_refused
 
-pub moved_with_reply-step-requires : goal.moved_with_reply-step-requires
-moved_with_reply-step-requires c =
-    let whose = c.asked_whose-whose.result in
-    let moves = c.in-Moves in
+pub moved_with_reply-requires : goal.moved_with_reply-requires
+moved_with_reply-requires c =
+    let whose = c.asked_whose.result in
+    let moves = c.in-Ok.field-0 in
     let side = c.asked_side-side.result in
     let a = c.args in
     let both = room_for _ a.paper.now a.wire.now (sym c.no_room.ensures ∙ c.if-no_room.false)
-    (move_fits _ side moves.q (reply_bytes whose moves.reply a.option) (reply_long whose moves.reply a.option) (sized_view a.s)) in
+    (move_fits _ side moves.next (reply_bytes whose moves.reply a.option) (reply_long whose moves.reply a.option) (sized_view a.s)) in
     record { room_for = both.0; room_for_2 = both.1 }
 
-pub returns-in-Refused : goal.returns-in-Refused
+pub returns-in-Err : goal.returns-in-Err
 unfolding ask_call guarded
-returns-in-Refused c =
-    rw (sym c.no_room.ensures ∙ c.if-no_room.false, ← c.asked_side-side.ensures, ← c.asked_enable-enable.ensures, sym c.asking_of-asking.ensures ∙ c.in-Refused.is, c.refused-in-Refused.ensures)
+returns-in-Err c =
+    rw (sym c.no_room.ensures ∙ c.if-no_room.false, ← c.asked_side-side.ensures, ← c.asked_enable.ensures, sym c.asking_of.ensures ∙ c.in-Err.is, c.refused-in-Err.ensures)
     met_refused
 
-pub returns-in-Moves : goal.returns-in-Moves
+pub returns-in-Ok : goal.returns-in-Ok
 unfolding ask_call guarded
-returns-in-Moves c =
-    let whose = c.asked_whose-whose in
-    let moves = c.in-Moves in
+returns-in-Ok c =
+    let whose = c.asked_whose in
+    let moves = c.in-Ok.field-0 in
     let a = c.args in
-    rw (sym c.no_room.ensures ∙ c.if-no_room.false, ← c.asked_side-side.ensures, ← c.asked_enable-enable.ensures, sym c.asking_of-asking.ensures ∙ moves.is, ← whose.ensures, c.done.ensures.0)
-    (met_done {d = moved_with_reply (view_printer a.s) c.asked_side-side.result moves.q (reply_bytes whose.result moves.reply a.option)} c.moved_with_reply-step.ensures c.done.ensures.1)
+    rw (sym c.no_room.ensures ∙ c.if-no_room.false, ← c.asked_side-side.ensures, ← c.asked_enable.ensures, sym c.asking_of.ensures ∙ c.in-Ok.is, ← whose.ensures, c.done.ensures.0)
+    (met_done {d = moved_with_reply (view_printer a.s) c.asked_side-side.result moves.next (reply_bytes whose.result moves.reply a.option)} c.moved_with_reply.ensures c.done.ensures.1)

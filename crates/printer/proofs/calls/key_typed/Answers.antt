@@ -2,9 +2,9 @@ use mathlib.Core.Path.{refl, sym, ◌∙◌}
 use Rattle.printer.specs.Calls.{key_typed}
 use Rattle.printer.proofs.calls.key_typed.Goals as goal
 
-pub pressed-e-requires : goal.pressed-e-requires
+pub pressed-requires : goal.pressed-requires
 unfolding key_typed
-pressed-e-requires c =
+pressed-requires c =
     let on = sym c.rcte_in_force.ensures ∙ c.if-rcte_in_force.true in
     let free = rw on at c.requires.s_value in
     record { room_for = rw free (rw on at c.requires.room_for); room_for_2 = rw free (rw on at c.requires.room_for_2) }
@@ -13,8 +13,8 @@ pub returns-then-rcte_in_force : goal.returns-then-rcte_in_force
 unfolding key_typed
 returns-then-rcte_in_force c =
     let free = rw (sym c.rcte_in_force.ensures ∙ c.if-rcte_in_force.true) at c.requires.s_value in
-    let e = rw free at c.pressed-e.ensures in
-    rw (sym c.rcte_in_force.ensures ∙ c.if-rcte_in_force.true)
+    let e = rw free at c.pressed.ensures in
+    rw (sym c.rcte_in_force.ensures ∙ c.if-rcte_in_force.true, c.after_rcte.ensures)
     (record {
       note = refl;
       wrote = e.wrote;

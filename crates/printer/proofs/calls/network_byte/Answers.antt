@@ -36,8 +36,8 @@ returns-then-is_ordinary c =
       same = λ n. absurd (n refl);
     })
 
-pub network_read-step-requires : goal.network_read-step-requires
-network_read-step-requires c =
+pub network_read-requires : goal.network_read-requires
+network_read-requires c =
     let a = c.args in
     let both = room_for _ a.paper.now a.wire.now (sym c.no_room.ensures ∙ c.if-no_room.false) (network_fits _ a.b (sized_view a.s)) in
     record { room_for = both.0; room_for_2 = both.1 }
@@ -47,6 +47,6 @@ unfolding network_call guarded
 returns c =
     let no_room = c.no_room in
     let if1 = c.if-no_room in
-    let network_read_lem = c.network_read-step in
+    let network_read_lem = c.network_read in
     let done = c.done in
     rw (sym no_room.ensures ∙ if1.false, done.ensures.0) (met_done network_read_lem.ensures done.ensures.1)

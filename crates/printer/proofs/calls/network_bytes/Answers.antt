@@ -2,7 +2,8 @@ use mathlib.Core.Path.{sym, ◌∙◌}
 use lib.ListN.{length}
 use Rattle.reader.proofs.NetworkRun.{run_begun}
 use Rattle.printer.specs.Refinement.{view_printer}
-use Rattle.printer.proofs.Runs.{lawful, refines_refused}
+use Rattle.printer.specs.NetworkEnd.{lawful}
+use Rattle.printer.proofs.Runs.{refines_refused}
 use Rattle.printer.proofs.calls.network_bytes.Goals as goal
 
 pub returns-then-cannot_begin : goal.returns-then-cannot_begin

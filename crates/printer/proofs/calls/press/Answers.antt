@@ -23,8 +23,8 @@ returns-then-queue_full c =
     rw (sym c.no_room.ensures ∙ c.if-no_room.false, sym c.bad_command.ensures ∙ c.if-bad_command.false, sym c.queue_full.ensures ∙ c.if-queue_full.true, c.refused-then-queue_full.ensures)
     met_refused
 
-pub key_typed-step-requires : goal.key_typed-step-requires
-key_typed-step-requires c =
+pub key_typed-requires : goal.key_typed-requires
+key_typed-requires c =
     let a = c.args in
     let both = room_for _ a.paper.now a.wire.now (sym c.no_room.ensures ∙ c.if-no_room.false) (key_fits _ a.k (sized_view a.s)) in
     record { s_value = sym c.queue_full.ensures ∙ c.if-queue_full.false; room_for = both.0; room_for_2 = both.1 }
@@ -33,4 +33,4 @@ pub returns : goal.returns
 unfolding key_call guarded
 returns c =
     rw (sym c.no_room.ensures ∙ c.if-no_room.false, sym c.bad_command.ensures ∙ c.if-bad_command.false, sym c.queue_full.ensures ∙ c.if-queue_full.false, c.done.ensures.0)
-    (met_done c.key_typed-step.ensures c.done.ensures.1)
+    (met_done c.key_typed.ensures c.done.ensures.1)

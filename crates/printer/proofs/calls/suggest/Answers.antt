@@ -26,11 +26,11 @@ suggest_of-requires c =
 pub returns-in-Some : goal.returns-in-Some
 unfolding suggest_call guarded
 returns-in-Some c =
-    rw (sym c.no_room.ensures ∙ c.if-no_room.false, sym c.disposition_numbered-found.ensures ∙ c.in-Some.is)
+    rw (sym c.no_room.ensures ∙ c.if-no_room.false, sym c.disposition_numbered.ensures ∙ c.in-Some.is)
     (c.suggest_of.ensures.met _)
 
 pub returns-in-None : goal.returns-in-None
 unfolding suggest_call guarded
 returns-in-None c =
-    rw (sym c.no_room.ensures ∙ c.if-no_room.false, sym c.disposition_numbered-found.ensures ∙ c.in-None.is, c.refused-in-None.ensures)
+    rw (sym c.no_room.ensures ∙ c.if-no_room.false, sym c.disposition_numbered.ensures ∙ c.in-None.is, c.refused-in-None.ensures)
     met_refused

@@ -1,35 +1,27 @@
-use mathlib.Core.Path.{refl}
+use mathlib.Core.Path.{◌≡◌, refl, sym, ◌∙◌}
+use Rattle.std.specs.Prelude.{Ok, Err}
 use Rattle.lists.proofs.Starts.{wrote_none}
-use Rattle.codes.proofs.Guards.{guarded_refused, guarded_done, test_stops, test_passes}
+use Rattle.codes.specs.Answers.{allowed}
+use Rattle.codes.proofs.Allowed.{guarded_by}
 use Rattle.disposition.specs.Handled.{suggest_guards}
 use Rattle.printer.proofs.Answering.{met_refused}
-use mathlib.Core.Path.{ap}
-use mathlib.Core.Bool.{not}
 use Rattle.printer.proofs.calls.suggest_of.Goals as goal
 
-pub returns-then-not-is_done : goal.returns-then-not-is_done
-returns-then-not-is_done c =
-    let on = c.disposition_in_force in
-    let old = c.values_of-old in
-    let a = c.args in
-    let gs = suggest_guards a.d on.result old.result.dr a.v in
-    let stops = test_stops gs c.suggest_refusal-code.ensures c.is_done.ensures (ap not c.if-not-is_done.true) in
-    rw (← on.ensures, ← old.ensures, guarded_refused _ _ gs stops, ← c.suggest_refusal-code.ensures, c.refused.ensures)
+pub returns-in-Err : goal.returns-in-Err
+returns-in-Err c =
+    let stops : allowed (suggest_guards c.args.d c.disposition_in_force-on.result c.of-old.result.dr c.args.v) ≡ Err c.in-Err.code = sym c.suggest_refusal.ensures ∙ c.in-Err.is in
+    rw (← c.disposition_in_force-on.ensures, ← c.of-old.ensures, guarded_by, stops, c.refused.ensures)
     (record { met = λ paper. met_refused })
 
-pub returns : goal.returns
-returns c =
-    let on = c.disposition_in_force in
-    let old = c.values_of-old in
-    let a = c.args in
-    let gs = suggest_guards a.d on.result old.result.dr a.v in
-    let passes = test_passes gs c.suggest_refusal-code.ensures c.is_done.ensures (ap not c.if-not-is_done.false) in
-    rw (← on.ensures, ← old.ensures, guarded_done _ _ gs (refl, (refl, (refl, tt))) passes, c.with_values_of-values.ensures, c.with_dr.ensures)
+pub returns-in-Ok : goal.returns-in-Ok
+returns-in-Ok c =
+    let passes : allowed (suggest_guards c.args.d c.disposition_in_force-on.result c.of-old.result.dr c.args.v) ≡ Ok tt = sym c.suggest_refusal.ensures ∙ c.in-Ok.is in
+    rw (← c.disposition_in_force-on.ensures, ← c.of-old.ensures, guarded_by, passes, c.with.ensures, c.with_dr.ensures)
     (record {
       met = λ paper. record {
         code = refl;
         note = refl;
-        wrote = record { paper = wrote_none paper; wire = c.put_suggestion-n.ensures };
+        wrote = record { paper = wrote_none paper; wire = c.put_suggestion.ensures };
         view = refl;
         clean = λ k. record { reader = k.reader; table = k.table; rcte = k.rcte };
         whole = λ k. record { body = k.body; cells = k.cells; waiting = k.waiting; gathered = k.gathered };

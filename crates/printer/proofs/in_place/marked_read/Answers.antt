@@ -1,12 +1,11 @@
--- `printer::in_place::marked_read` meets its contract. The text is where its span says, whatever the cells have.
+use mathlib.Core.Path.{◌≡◌}
+use Rattle.std.specs.Prelude.{None}
+use borrow.Author.Rules.{rules}
+use Rattle.printer.proofs.AnsweringInPlace.{entry_plain, unhandled_on_paper}
 use Rattle.printer.proofs.in_place.marked_read.Goals as goal
 
-pub span_read-requires : goal.span_read-requires
-span_read-requires c =
-    let span = c.text_span-span.ensures in
-    record { start_le_end = (span.order, span.room); room_for = rw (span.entry c.args.cells.now) at c.requires }
-
-pub returns : goal.returns
-returns c =
-    let a = c.args in
-    rw (c.text_span-span.ensures.entry a.cells.now) c.span_read.ensures
+pub returns-in_err-bytes : goal.returns-in_err-bytes
+returns-in_err-bytes c =
+    let parts = c.args.parts in
+    let none : c.from_residual.result ≡ None = search rules in
+    rw (none, entry_plain parts.sides parts.phase parts.held _ c.in_err-bytes.ensures) unhandled_on_paper

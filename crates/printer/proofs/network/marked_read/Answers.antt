@@ -1,22 +1,25 @@
--- `printer::network::marked_read` meets its contract. By whether the byte was handled in place.
+-- By whether the byte has a text, and whether that was printed in place.
 use Rattle.printer.proofs.MarkedBytes.{marked_room, marked_met, marked_unwritten}
 use Rattle.printer.proofs.network.marked_read.Goals as goal
 
-pub span_read-printed-requires : goal.span_read-printed-requires
-span_read-printed-requires c =
+pub text_read-requires : goal.text_read-requires
+text_read-requires c =
     let a = c.args in
-    let span = c.text_span-span.ensures in
-    record { start_le_end = (span.order, span.room); room_for = marked_room a.s a.b _ (span.entry a.s.table.cells) a.paper.now c.requires.room_for }
+    rw c.parts.ensures (marked_room a.s a.b _ c.in-Some.ensures a.paper.now c.requires.room_for)
 
-pub returns-then-printed : goal.returns-then-printed
-returns-then-printed c =
+pub returns-in-Some-text_read : goal.returns-in-Some-text_read
+returns-in-Some-text_read c =
     let a = c.args in
-    let span = c.text_span-span.ensures in
-    marked_met a.s a.b _ (span.entry a.s.table.cells) c.span_read-printed.ensures a.wire.now c.if-printed.true
+    marked_met a.s a.b _ c.in-Some.ensures (rw c.parts.ensures at c.in-Some-text_read.ensures) a.wire.now
 
-pub returns : goal.returns
-returns c =
+pub text_read-requires-in-None : goal.text_read-requires-in-None
+text_read-requires-in-None c =
     let a = c.args in
-    let span = c.text_span-span.ensures in
-    let read = c.span_read-printed in
-    rw (marked_unwritten a.s a.b _ (span.entry a.s.table.cells) read.ensures c.if-printed.false) at c.defined_read.ensures
+    let same = marked_unwritten a.s a.b _ c.in-Some.ensures (rw c.parts.ensures at c.in-None.ensures) in
+    rw same (rw c.in-Some.ensures at c.requires)
+
+pub returns-in-None : goal.returns-in-None
+returns-in-None c =
+    let a = c.args in
+    let same = marked_unwritten a.s a.b _ c.in-Some.ensures (rw c.parts.ensures at c.in-None.ensures) in
+    rw c.in-Some.ensures (rw same at c.text_read-in-None.ensures)

@@ -11,7 +11,3 @@ returns-then-e c =
     let e = c.args.e in
     let l : length e.waiting ≡ 256 = search rules in
     rw c.if-e.true (full e.waiting e.count l)
-
-pub returns-else-e : goal.returns-else-e
-unfolding is_full
-returns-else-e c = search rules

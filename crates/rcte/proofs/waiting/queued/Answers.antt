@@ -25,14 +25,14 @@ bytes e (Command b) g = omega arith
 pub returns : goal.returns
 returns c =
     let start = c in
-    let free = c.if-count-ge-WAIT_ROOM.false in
+    let free = c.if-e-ge-WAIT_ROOM.false in
     let e = start.args.e in
     let k = start.args.k in
     let l : length e.waiting ≡ 256 = search rules in
     let room : leb 256 (length (waiting_in e)) ≡ false = lt-leb 256 (length (waiting_in e)) (omega (arith, count_of e.waiting e.count l, free)) in
-    let same : key_of_number c.key_number-number.result ≡ k = ap key_of_number c.key_number-number.ensures ∙ key_of_key_number k (bytes e k start.well_formed) in
+    let same : key_of_number c.from.result ≡ k = ap key_of_number c.from.ensures ∙ key_of_key_number k (bytes e k start.well_formed) in
     rw room
     (record {
-      rcte = rw (queued_keys e.waiting e.count l c.key_number-number.result k free same);
-      clean = λ h. record { waiting = queued_clean e.waiting e.count l c.key_number-number.result free h.waiting; numbers = queued_numbers e.waiting e.count c.key_number-number.result (ap key_number same ∙ sym c.key_number-number.ensures) h.numbers; gathered = h.gathered };
+      rcte = rw (queued_keys e.waiting e.count l c.from.result k free same);
+      clean = λ h. record { waiting = queued_clean e.waiting e.count l c.from.result free h.waiting; numbers = queued_numbers e.waiting e.count c.from.result (ap key_number same ∙ sym c.from.ensures) h.numbers; gathered = h.gathered };
     })

@@ -1,199 +1,79 @@
-use mathlib.Core.Path.{◌≡◌, sym, ◌∙◌}
-use mathlib.Core.List.{◌∷◌, map}
-use mathlib.Core.Bool.{true}
-use Prim.Native.Nat.{◌≤◌, ◌<◌, ◌+◌, ◌-◌}
+use mathlib.Core.Path.{◌≡◌, sym, ap, ◌∙◌}
+use mathlib.Core.Bool.{Bool, true}
+use mathlib.Core.List.{List, ◌∷◌, map}
+use Prim.Native.Nat.{ℕ, suc, ◌+◌, ◌≤◌, ◌<◌}
 use native.Mathlib.Omega.{arith}
-use lib.ListN.{length, take, drop, get_or, length-map, length-take}
+use lib.Dec.{ltb}
+use lib.ListN.{length, length-map, length-take, get_or, drop}
+use lib.Seq.{drop-cons}
+use native.Mathlib.Numerals.{add-one}
+use Rattle.lists.proofs.Copying.{map-drop}
 use borrow.Author.Rules.{rules}
-use Rattle.lists.specs.Buffers.{lent_as, RoomFor}
+use borrow.Author.Tests.{ltb-true, ltb-false}
 use Rattle.keys.specs.Refinement.{key_of_number}
-use Rattle.rcte.specs.Control.{released}
-use Rattle.rcte.specs.Refinement.{view_rcte, view_orders, bytes_in, only_gathered, releasing, taken_before, holds_after}
-use Rattle.rcte.proofs.Cells.{next_key}
-use Rattle.rcte.proofs.PlainKeys.{is_byte, has_room}
-use Rattle.rcte.proofs.Releasing.{Gone, same_run, begun, paper_within, wire_within, paper_room, wire_room, paper_sum, wire_sum, turn, plain_room, plain_sum, plain_turn, broken, all_gone, ended}
+use Rattle.rcte.specs.Refinement.{numbers_in}
+use Rattle.rcte.proofs.Releasing.{paper_room, wire_room, turn, plain_room, plain_turn, broken, all_gone, ended}
 use Rattle.rcte.proofs.waiting.release.Goals as goal
-use Rattle.rcte.proofs.waiting.release.Goals.{then-i-count, else-i-count+else-only_gathered+then-t}
+use Rattle.rcte.proofs.waiting.release.Goals.{in_default, in-Some+in_default+then-t, in_default-via-in-Line-1, in_default-via-in-Char+else-g-lt-GATHER_ROOM, in_default-via-in-Char+then-g-lt-GATHER_ROOM+else-is_plain_key}
 
-pub loop-i-init : goal.loop-i-init
-loop-i-init c =
-    let l : length c.gathered_of-g.result.cells ≡ 512 = search rules in
-    begun (view_orders c.orders_of-o.result) (map key_of_number (take c.capped-count.result c.args.e.waiting)) c.gathered_of-g.result c.args.paper.now c.args.wire.now l
+-- the number that was got is the next that waits
+found : (numbers : List ℕ) (i n : ℕ) → true ≡ ltb i (length numbers) → n ≡ get_or numbers i n
+    → drop i (map key_of_number numbers) ≡ key_of_number n ∷ drop (i + 1) (map key_of_number numbers)
+found numbers i n b e =
+    let h : i < length numbers = ltb-true _ _ (sym b) in
+    rw (← map-drop key_of_number i numbers, drop-cons numbers i n, map-drop key_of_number (suc i) numbers, add-one i)
+    (ap (λ (m : ℕ). key_of_number m ∷ drop (suc i) (map key_of_number numbers)) (sym e))
 
-pub overflow_cast-b : goal.overflow_cast-b
-overflow_cast-b c =
-    let orders = view_orders c.orders_of-o.result in
-    let number = get_or c.args.e.waiting c.loop-i.i 0 in
-    let only : only_gathered orders number c.loop-i.g.filled ≡ true = sym c.only_gathered.ensures ∙ c.if-only_gathered.true in
-    record { fits = is_byte orders number _ only }
+pub print_plain-p-requires : goal.print_plain-p-requires
+print_plain-p-requires c =
+    let next = rw (← c.from-k.ensures, c.in-Char.is) at (found _ _ _ c.in-Some.ensures.lookup.0 c.in-Some.ensures.lookup.1) in
+    plain_room c.loop-number.invariant next c.if-g-lt-GATHER_ROOM.true (sym c.is_plain_key.ensures ∙ c.if-is_plain_key.true)
 
-pub slice_bounds-print_plain-count : goal.slice_bounds-print_plain-count
-slice_bounds-print_plain-count c =
-    let keys = map key_of_number (take c.capped-count.result c.args.e.waiting) in
-    let orders = view_orders c.orders_of-o.result in
-    let rule : released orders (bytes_in c.gathered_of-g.result) keys ≡ releasing (view_rcte c.args.e) = same_run c.args.e c.orders_of-o.result c.gathered_of-g.result c.capped-count.result c.orders_of-o.ensures c.gathered_of-g.ensures c.capped-count.ensures in
-    let paper_fits : RoomFor (released orders (bytes_in c.gathered_of-g.result) keys).paper c.args.paper.now = rw rule c.requires.room_for in
-    let wire_fits_lem : RoomFor (released orders (bytes_in c.gathered_of-g.result) keys).wire c.args.wire.now = rw rule c.requires.room_for_2 in
-    paper_within c.loop-i.invariant paper_fits (wire_fits_lem)
-
-pub slice_bounds-print_plain-start : goal.slice_bounds-print_plain-start
-slice_bounds-print_plain-start c = slice_bounds-print_plain-count c
-
-pub print_plain-n-requires : goal.print_plain-n-requires
-print_plain-n-requires c =
-    let keys = map key_of_number (take c.capped-count.result c.args.e.waiting) in
-    let orders = view_orders c.orders_of-o.result in
-    let number = get_or c.args.e.waiting c.loop-i.i 0 in
-    let rule : released orders (bytes_in c.gathered_of-g.result) keys ≡ releasing (view_rcte c.args.e) = same_run c.args.e c.orders_of-o.result c.gathered_of-g.result c.capped-count.result c.orders_of-o.ensures c.gathered_of-g.ensures c.capped-count.ensures in
-    let paper_fits : RoomFor (released orders (bytes_in c.gathered_of-g.result) keys).paper c.args.paper.now = rw rule c.requires.room_for in
-    let wire_fits_lem : RoomFor (released orders (bytes_in c.gathered_of-g.result) keys).wire c.args.wire.now = rw rule c.requires.room_for_2 in
-    let cells_long : length c.args.e.waiting ≡ 256 = search rules in
-    let inside : c.loop-i.i < length keys = let l = cells_long in simp (length-map, length-take) (omega (arith, c.capped-count.ensures, c.if-i-count.false)) in
-    let next : drop c.loop-i.i keys ≡ key_of_number number ∷ drop (c.loop-i.i + 1) keys = let l = cells_long in next_key c.args.e.waiting c.capped-count.result c.loop-i.i c.if-i-count.false (omega (arith, c.capped-count.ensures)) in
-    let only : only_gathered orders number c.loop-i.g.filled ≡ true = sym c.only_gathered.ensures ∙ c.if-only_gathered.true in
-    plain_room c.loop-i.invariant paper_fits wire_fits_lem number only inside (next)
-
-pub overflow_add-p : goal.overflow_add-p
-overflow_add-p c =
-    let keys = map key_of_number (take c.capped-count.result c.args.e.waiting) in
-    let orders = view_orders c.orders_of-o.result in
-    let number = get_or c.args.e.waiting c.loop-i.i 0 in
-    let rule : released orders (bytes_in c.gathered_of-g.result) keys ≡ releasing (view_rcte c.args.e) = same_run c.args.e c.orders_of-o.result c.gathered_of-g.result c.capped-count.result c.orders_of-o.ensures c.gathered_of-g.ensures c.capped-count.ensures in
-    let paper_fits : RoomFor (released orders (bytes_in c.gathered_of-g.result) keys).paper c.args.paper.now = rw rule c.requires.room_for in
-    let wire_fits_lem : RoomFor (released orders (bytes_in c.gathered_of-g.result) keys).wire c.args.wire.now = rw rule c.requires.room_for_2 in
-    let cells_long : length c.args.e.waiting ≡ 256 = search rules in
-    let inside : c.loop-i.i < length keys = let l = cells_long in simp (length-map, length-take) (omega (arith, c.capped-count.ensures, c.if-i-count.false)) in
-    let next : drop c.loop-i.i keys ≡ key_of_number number ∷ drop (c.loop-i.i + 1) keys = let l = cells_long in next_key c.args.e.waiting c.capped-count.result c.loop-i.i c.if-i-count.false (omega (arith, c.capped-count.ensures)) in
-    let only : only_gathered orders number c.loop-i.g.filled ≡ true = sym c.only_gathered.ensures ∙ c.if-only_gathered.true in
-    let most = plain_sum c.loop-i.invariant paper_fits wire_fits_lem number only inside next c.print_plain-n.new.paper c.print_plain-n.result c.print_plain-n.ensures in
-    omega (arith, most, c.well_formed)
-
-pub bounds-g-at : goal.bounds-g-at
-bounds-g-at c =
-    let orders = view_orders c.orders_of-o.result in
-    let number = get_or c.args.e.waiting c.loop-i.i 0 in
-    let only : only_gathered orders number c.loop-i.g.filled ≡ true = sym c.only_gathered.ensures ∙ c.if-only_gathered.true in
-    has_room orders number _ (only)
-
-pub overflow_add-g : goal.overflow_add-g
-overflow_add-g c = omega (arith, bounds-g-at c)
-
-pub loop-i-preserved-then-only_gathered : goal.loop-i-preserved-then-only_gathered
-loop-i-preserved-then-only_gathered c =
-    let keys = map key_of_number (take c.capped-count.result c.args.e.waiting) in
-    let orders = view_orders c.orders_of-o.result in
-    let number = get_or c.args.e.waiting c.loop-i.i 0 in
-    let rule : released orders (bytes_in c.gathered_of-g.result) keys ≡ releasing (view_rcte c.args.e) = same_run c.args.e c.orders_of-o.result c.gathered_of-g.result c.capped-count.result c.orders_of-o.ensures c.gathered_of-g.ensures c.capped-count.ensures in
-    let paper_fits : RoomFor (released orders (bytes_in c.gathered_of-g.result) keys).paper c.args.paper.now = rw rule c.requires.room_for in
-    let wire_fits_lem : RoomFor (released orders (bytes_in c.gathered_of-g.result) keys).wire c.args.wire.now = rw rule c.requires.room_for_2 in
-    let cells_long : length c.args.e.waiting ≡ 256 = search rules in
-    let inside : c.loop-i.i < length keys = let l = cells_long in simp (length-map, length-take) (omega (arith, c.capped-count.ensures, c.if-i-count.false)) in
-    let next : drop c.loop-i.i keys ≡ key_of_number number ∷ drop (c.loop-i.i + 1) keys = let l = cells_long in next_key c.args.e.waiting c.capped-count.result c.loop-i.i c.if-i-count.false (omega (arith, c.capped-count.ensures)) in
-    let only : only_gathered orders number c.loop-i.g.filled ≡ true = sym c.only_gathered.ensures ∙ c.if-only_gathered.true in
-    plain_turn c.loop-i.invariant paper_fits wire_fits_lem number only inside next c.print_plain-n.new.paper c.print_plain-n.result c.print_plain-n.ensures
-
-pub slice_bounds-take_up-count : goal.slice_bounds-take_up-count
-slice_bounds-take_up-count c =
-    let keys = map key_of_number (take c.capped-count.result c.args.e.waiting) in
-    let orders = view_orders c.orders_of-o.result in
-    let rule : released orders (bytes_in c.gathered_of-g.result) keys ≡ releasing (view_rcte c.args.e) = same_run c.args.e c.orders_of-o.result c.gathered_of-g.result c.capped-count.result c.orders_of-o.ensures c.gathered_of-g.ensures c.capped-count.ensures in
-    let paper_fits : RoomFor (released orders (bytes_in c.gathered_of-g.result) keys).paper c.args.paper.now = rw rule c.requires.room_for in
-    let wire_fits_lem : RoomFor (released orders (bytes_in c.gathered_of-g.result) keys).wire c.args.wire.now = rw rule c.requires.room_for_2 in
-    paper_within c.loop-i.invariant paper_fits (wire_fits_lem)
-
-pub slice_bounds-take_up-start : goal.slice_bounds-take_up-start
-slice_bounds-take_up-start c = slice_bounds-take_up-count c
-
-pub slice_bounds-take_up-count-in-loop-i : goal.slice_bounds-take_up-count-in-loop-i
-slice_bounds-take_up-count-in-loop-i c =
-    let keys = map key_of_number (take c.capped-count.result c.args.e.waiting) in
-    let orders = view_orders c.orders_of-o.result in
-    let rule : released orders (bytes_in c.gathered_of-g.result) keys ≡ releasing (view_rcte c.args.e) = same_run c.args.e c.orders_of-o.result c.gathered_of-g.result c.capped-count.result c.orders_of-o.ensures c.gathered_of-g.ensures c.capped-count.ensures in
-    let paper_fits : RoomFor (released orders (bytes_in c.gathered_of-g.result) keys).paper c.args.paper.now = rw rule c.requires.room_for in
-    let wire_fits_lem : RoomFor (released orders (bytes_in c.gathered_of-g.result) keys).wire c.args.wire.now = rw rule c.requires.room_for_2 in
-    wire_within c.loop-i.invariant paper_fits (wire_fits_lem)
-
-pub slice_bounds-take_up-start-in-loop-i : goal.slice_bounds-take_up-start-in-loop-i
-slice_bounds-take_up-start-in-loop-i c = slice_bounds-take_up-count-in-loop-i c
+pub loop-number-preserved-in-loop-number : goal.loop-number-preserved-in-loop-number
+loop-number-preserved-in-loop-number c =
+    let next = rw (← c.from-k.ensures, c.in-Char.is) at (found _ _ _ c.in-Some.ensures.lookup.0 c.in-Some.ensures.lookup.1) in
+    plain_turn c.loop-number.invariant next c.if-g-lt-GATHER_ROOM.true (sym c.is_plain_key.ensures ∙ c.if-is_plain_key.true) c.print_plain-p.ensures
 
 pub take_up-t-requires : goal.take_up-t-requires
 take_up-t-requires c =
-    let keys = map key_of_number (take c.capped-count.result c.args.e.waiting) in
-    let orders = view_orders c.orders_of-o.result in
-    let number = get_or c.args.e.waiting c.loop-i.i 0 in
-    let rule : released orders (bytes_in c.gathered_of-g.result) keys ≡ releasing (view_rcte c.args.e) = same_run c.args.e c.orders_of-o.result c.gathered_of-g.result c.capped-count.result c.orders_of-o.ensures c.gathered_of-g.ensures c.capped-count.ensures in
-    let paper_fits : RoomFor (released orders (bytes_in c.gathered_of-g.result) keys).paper c.args.paper.now = rw rule c.requires.room_for in
-    let wire_fits_lem : RoomFor (released orders (bytes_in c.gathered_of-g.result) keys).wire c.args.wire.now = rw rule c.requires.room_for_2 in
-    let cells_long : length c.args.e.waiting ≡ 256 = search rules in
-    let inside : c.loop-i.i < length keys = let l = cells_long in simp (length-map, length-take) (omega (arith, c.capped-count.ensures, c.if-i-count.false)) in
-    let next : drop c.loop-i.i keys ≡ key_of_number number ∷ drop (c.loop-i.i + 1) keys = let l = cells_long in next_key c.args.e.waiting c.capped-count.result c.loop-i.i c.if-i-count.false (omega (arith, c.capped-count.ensures)) in
-    let next_is : drop c.loop-i.i keys ≡ c.key_of_number-k.result ∷ drop (c.loop-i.i + 1) keys = rw c.key_of_number-k.ensures next in
-    record { room_for = paper_room c.loop-i.invariant paper_fits wire_fits_lem c.key_of_number-k.result inside (next_is); room_for_2 = wire_room c.loop-i.invariant paper_fits wire_fits_lem c.key_of_number-k.result inside next_is }
+    let same : c.in_default.k ≡ c.from-k.result = elim c.in_default.branch [
+      | in_default-via-in-Line-1 w ↦ w.k-is
+      | in_default-via-in-Char+else-g-lt-GATHER_ROOM w ↦ w.k-is ∙ sym w.in-Char.is
+      | in_default-via-in-Char+then-g-lt-GATHER_ROOM+else-is_plain_key w ↦ w.k-is ∙ sym w.in-Char.is
+    ] in
+    let next = rw (← c.from-k.ensures, ← same) at (found _ _ _ c.in-Some.ensures.lookup.0 c.in-Some.ensures.lookup.1) in
+    record { room_for = paper_room c.loop-number.invariant _ next; room_for_2 = wire_room c.loop-number.invariant _ next }
 
-pub overflow_add-p-in-loop-i : goal.overflow_add-p-in-loop-i
-overflow_add-p-in-loop-i c =
-    let keys = map key_of_number (take c.capped-count.result c.args.e.waiting) in
-    let orders = view_orders c.orders_of-o.result in
-    let number = get_or c.args.e.waiting c.loop-i.i 0 in
-    let rule : released orders (bytes_in c.gathered_of-g.result) keys ≡ releasing (view_rcte c.args.e) = same_run c.args.e c.orders_of-o.result c.gathered_of-g.result c.capped-count.result c.orders_of-o.ensures c.gathered_of-g.ensures c.capped-count.ensures in
-    let paper_fits : RoomFor (released orders (bytes_in c.gathered_of-g.result) keys).paper c.args.paper.now = rw rule c.requires.room_for in
-    let wire_fits_lem : RoomFor (released orders (bytes_in c.gathered_of-g.result) keys).wire c.args.wire.now = rw rule c.requires.room_for_2 in
-    let cells_long : length c.args.e.waiting ≡ 256 = search rules in
-    let inside : c.loop-i.i < length keys = let l = cells_long in simp (length-map, length-take) (omega (arith, c.capped-count.ensures, c.if-i-count.false)) in
-    let next : drop c.loop-i.i keys ≡ key_of_number number ∷ drop (c.loop-i.i + 1) keys = let l = cells_long in next_key c.args.e.waiting c.capped-count.result c.loop-i.i c.if-i-count.false (omega (arith, c.capped-count.ensures)) in
-    let next_is : drop c.loop-i.i keys ≡ c.key_of_number-k.result ∷ drop (c.loop-i.i + 1) keys = rw c.key_of_number-k.ensures next in
-    let most = paper_sum c.loop-i.invariant paper_fits wire_fits_lem c.key_of_number-k.result inside next_is c.take_up-t.new.paper c.take_up-t.new.wire c.take_up-t.result c.take_up-t.ensures in
-    omega (arith, most, c.well_formed)
-
-pub overflow_add-w : goal.overflow_add-w
-overflow_add-w c =
-    let keys = map key_of_number (take c.capped-count.result c.args.e.waiting) in
-    let orders = view_orders c.orders_of-o.result in
-    let number = get_or c.args.e.waiting c.loop-i.i 0 in
-    let rule : released orders (bytes_in c.gathered_of-g.result) keys ≡ releasing (view_rcte c.args.e) = same_run c.args.e c.orders_of-o.result c.gathered_of-g.result c.capped-count.result c.orders_of-o.ensures c.gathered_of-g.ensures c.capped-count.ensures in
-    let paper_fits : RoomFor (released orders (bytes_in c.gathered_of-g.result) keys).paper c.args.paper.now = rw rule c.requires.room_for in
-    let wire_fits_lem : RoomFor (released orders (bytes_in c.gathered_of-g.result) keys).wire c.args.wire.now = rw rule c.requires.room_for_2 in
-    let cells_long : length c.args.e.waiting ≡ 256 = search rules in
-    let inside : c.loop-i.i < length keys = let l = cells_long in simp (length-map, length-take) (omega (arith, c.capped-count.ensures, c.if-i-count.false)) in
-    let next : drop c.loop-i.i keys ≡ key_of_number number ∷ drop (c.loop-i.i + 1) keys = let l = cells_long in next_key c.args.e.waiting c.capped-count.result c.loop-i.i c.if-i-count.false (omega (arith, c.capped-count.ensures)) in
-    let next_is : drop c.loop-i.i keys ≡ c.key_of_number-k.result ∷ drop (c.loop-i.i + 1) keys = rw c.key_of_number-k.ensures next in
-    let most = wire_sum c.loop-i.invariant paper_fits wire_fits_lem c.key_of_number-k.result inside next_is c.take_up-t.new.paper c.take_up-t.new.wire c.take_up-t.result c.take_up-t.ensures in
-    omega (arith, most, c.well_formed)
-
-pub loop-i-preserved : goal.loop-i-preserved
-loop-i-preserved c =
-    let keys = map key_of_number (take c.capped-count.result c.args.e.waiting) in
-    let orders = view_orders c.orders_of-o.result in
-    let number = get_or c.args.e.waiting c.loop-i.i 0 in
-    let rule : released orders (bytes_in c.gathered_of-g.result) keys ≡ releasing (view_rcte c.args.e) = same_run c.args.e c.orders_of-o.result c.gathered_of-g.result c.capped-count.result c.orders_of-o.ensures c.gathered_of-g.ensures c.capped-count.ensures in
-    let paper_fits : RoomFor (released orders (bytes_in c.gathered_of-g.result) keys).paper c.args.paper.now = rw rule c.requires.room_for in
-    let wire_fits_lem : RoomFor (released orders (bytes_in c.gathered_of-g.result) keys).wire c.args.wire.now = rw rule c.requires.room_for_2 in
-    let cells_long : length c.args.e.waiting ≡ 256 = search rules in
-    let inside : c.loop-i.i < length keys = let l = cells_long in simp (length-map, length-take) (omega (arith, c.capped-count.ensures, c.if-i-count.false)) in
-    let next : drop c.loop-i.i keys ≡ key_of_number number ∷ drop (c.loop-i.i + 1) keys = let l = cells_long in next_key c.args.e.waiting c.capped-count.result c.loop-i.i c.if-i-count.false (omega (arith, c.capped-count.ensures)) in
-    let next_is : drop c.loop-i.i keys ≡ c.key_of_number-k.result ∷ drop (c.loop-i.i + 1) keys = rw c.key_of_number-k.ensures next in
-    let kept-long : length c.take_up-t.result.gathered.cells ≡ 512 = search rules in
-    turn c.loop-i.invariant paper_fits wire_fits_lem c.key_of_number-k.result inside next_is c.take_up-t.new.paper c.take_up-t.new.wire c.take_up-t.result c.take_up-t.ensures c.if-t.false (kept-long)
+pub loop-number-preserved : goal.loop-number-preserved
+loop-number-preserved c =
+    let same : c.in_default.k ≡ c.from-k.result = elim c.in_default.branch [
+      | in_default-via-in-Line-1 w ↦ w.k-is
+      | in_default-via-in-Char+else-g-lt-GATHER_ROOM w ↦ w.k-is ∙ sym w.in-Char.is
+      | in_default-via-in-Char+then-g-lt-GATHER_ROOM+else-is_plain_key w ↦ w.k-is ∙ sym w.in-Char.is
+    ] in
+    let next = rw (← c.from-k.ensures, ← same) at (found _ _ _ c.in-Some.ensures.lookup.0 c.in-Some.ensures.lookup.1) in
+    turn c.loop-number.invariant _ next c.take_up-t.ensures c.if-t.false
 
 pub returns : goal.returns
-returns c =
-    let keys = map key_of_number (take c.capped-count.result c.args.e.waiting) in
-    let orders = view_orders c.orders_of-o.result in
-    let number = get_or c.args.e.waiting c.loop-i.i 0 in
-    let rule : released orders (bytes_in c.gathered_of-g.result) keys ≡ releasing (view_rcte c.args.e) = same_run c.args.e c.orders_of-o.result c.gathered_of-g.result c.capped-count.result c.orders_of-o.ensures c.gathered_of-g.ensures c.capped-count.ensures in
-    let paper_fits : RoomFor (released orders (bytes_in c.gathered_of-g.result) keys).paper c.args.paper.now = rw rule c.requires.room_for in
-    let wire_fits_lem : RoomFor (released orders (bytes_in c.gathered_of-g.result) keys).wire c.args.wire.now = rw rule c.requires.room_for_2 in
-    let cells_long : length c.args.e.waiting ≡ 256 = search rules in
-    let loop_ended : Gone orders keys c.gathered_of-g.result c.if-i-count.g (lent_as c.args.paper.now c.if-i-count.paper) (lent_as c.args.wire.now c.if-i-count.wire) c.if-i-count.p c.if-i-count.w (taken_before c.if-i-count.stop keys) (holds_after c.if-i-count.stop) =
-    elim c.if-i-count.branch [
-      | then-i-count w ↦
-          let none : length keys ≤ c.loop-i.i = simp (length-map, length-take) (omega (arith, w.if-i-count.true)) in
-          rw (w.paper-is, w.wire-is, w.g-is, w.p-is, w.w-is, w.stop-is) (all_gone c.loop-i.invariant paper_fits wire_fits_lem none)
-      | else-i-count+else-only_gathered+then-t w ↦
-          let inside : c.loop-i.i < length keys = simp (length-map, length-take) (omega (arith, c.capped-count.ensures, w.if-i-count.false)) in
-          let next : drop c.loop-i.i keys ≡ key_of_number number ∷ drop (c.loop-i.i + 1) keys = next_key c.args.e.waiting c.capped-count.result c.loop-i.i w.if-i-count.false (omega (arith, c.capped-count.ensures)) in
-          let next_is : drop c.loop-i.i keys ≡ w.key_of_number-k.result ∷ drop (c.loop-i.i + 1) keys = rw w.key_of_number-k.ensures next in
-          rw (w.paper-is, w.wire-is, w.g-is, w.p-is, w.w-is, w.stop-is)
-          (broken c.loop-i.invariant paper_fits wire_fits_lem w.key_of_number-k.result inside next_is w.take_up-t.new.paper w.take_up-t.new.wire w.take_up-t.result w.take_up-t.ensures w.if-t.true)
-    ] in
-    ended c.args.e c.if-i-count.stop c.orders_of-o.ensures c.gathered_of-g.ensures c.capped-count.ensures loop_ended c.stopped.ensures
+returns c = elim c.match-get.branch [
+  | in_default w ↦
+      let numbers = c.waiting_numbers-numbers.result.now in
+      let none = ltb-false _ _ (sym w.in_default.ensures.lookup.0) in
+      let passed : length (map key_of_number numbers) ≤ c.loop-number.i = simp length-map none in
+      let short : length (numbers_in c.args.e) ≤ c.args.e.count = simp length-take (omega arith) in
+      let past : length (map key_of_number numbers) ≤ c.args.e.count = simp length-map (rw c.waiting_numbers-numbers.ensures short) in
+      rw (w.p-is, w.w-is, w.paper-is, w.wire-is)
+      (ended c.args.e c.orders-o.ensures c.gathered_bytes-g.ensures c.waiting_numbers-numbers.ensures (all_gone c.loop-number.invariant c.args.e.count passed past)
+      (rw (c.unwrap_or.ensures, c.is_some.ensures, w.stopped-is, w.g-is) at c.left.ensures))
+  | in-Some+in_default+then-t w ↦
+      let same : w.in_default.k ≡ w.from-k.result = elim w.in_default.branch [
+        | in_default-via-in-Line-1 v ↦ v.k-is
+        | in_default-via-in-Char+else-g-lt-GATHER_ROOM v ↦ v.k-is ∙ sym v.in-Char.is
+        | in_default-via-in-Char+then-g-lt-GATHER_ROOM+else-is_plain_key v ↦ v.k-is ∙ sym v.in-Char.is
+      ] in
+      let next = rw (← w.from-k.ensures, ← same) at (found _ _ _ w.in-Some.ensures.lookup.0 w.in-Some.ensures.lookup.1) in
+      rw (w.p-is, w.w-is, w.paper-is, w.wire-is)
+      (ended c.args.e c.orders-o.ensures c.gathered_bytes-g.ensures c.waiting_numbers-numbers.ensures
+      (broken c.loop-number.invariant _ next w.take_up-t.ensures w.if-t.true)
+      (rw (c.unwrap_or.ensures, c.is_some.ensures, w.stopped-is, w.g-is) at c.left.ensures))
+]

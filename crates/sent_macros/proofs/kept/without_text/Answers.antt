@@ -11,5 +11,5 @@ unfolding freed
 returns c =
     let a = c.args in
     let whole : WholeTable a.t = record { statuses = search rules; marks = search rules; cells = search rules } in
-    let changed = rw c.kept_texts-old.ensures at c.removed-texts.ensures in
+    let changed = rw c.kept_texts.ensures at c.removed-texts.ensures in
     rw c.with_status.ensures (restated_met a.t whole a.x (omega arith) a.s plain (sym c.requires) c.removed-texts.result changed)

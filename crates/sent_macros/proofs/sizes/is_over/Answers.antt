@@ -1,4 +1,3 @@
-use mathlib.Core.Path.{sym}
 use native.Mathlib.Omega.{arith}
 use borrow.Author.Tests.{lt-ltb}
 use lib.ListN.{length}
@@ -9,7 +8,4 @@ use Rattle.sent_macros.proofs.sizes.is_over.Goals as goal
 pub returns-then-text-gt-STORED_ROOM : goal.returns-then-text-gt-STORED_ROOM
 returns-then-text-gt-STORED_ROOM c =
     let s = c.args.text.now in
-    sym (lt-ltb stored_room (length (stored s)) (omega (arith, stored_long s)))
-
-pub returns : goal.returns
-returns c = rw c.stored_length-n.ensures
+    rw (lt-ltb stored_room (length (stored s)) (omega (arith, stored_long s)), lt-ltb stored_room (length s) (omega arith))

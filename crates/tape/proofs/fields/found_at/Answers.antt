@@ -1,22 +1,29 @@
-use mathlib.Core.Path.{sym}
+use mathlib.Core.Path.{sym, ◌∙◌}
 use native.Mathlib.Omega.{arith}
-use Rattle.tape.proofs.Heads.{at_end, head_cut, body_cut, whole}
+use lib.ListN.{length-take, length-drop}
+use Rattle.tape.proofs.Heads.{reads, only_bad, cut, unknown, odd, even}
 use Rattle.tape.proofs.fields.found_at.Goals as goal
 
-pub returns-then-end-at : goal.returns-then-end-at
-returns-then-end-at c = sym (at_end _ _ c.if-end-at.true)
+pub returns-then-body-size : goal.returns-then-body-size
+returns-then-body-size c =
+    let r = reads c.args.tape.now c.args.c.at _ (omega arith) c.in-len3-up.len_at_least c.from_be_bytes-size.ensures in
+    let short = simp (length-take, length-drop) at c.if-body-size.true in
+    sym (cut _ _ r (omega arith))
 
-pub returns-then-end-at-lt-HEAD : goal.returns-then-end-at-lt-HEAD
-returns-then-end-at-lt-HEAD c = sym (head_cut _ _ c.if-end-at.false c.if-end-at-lt-HEAD.true)
+pub returns-in_err-tag : goal.returns-in_err-tag
+returns-in_err-tag c =
+    let r = reads c.args.tape.now c.args.c.at _ (omega arith) c.in-len3-up.len_at_least c.from_be_bytes-size.ensures in
+    let whole = simp (length-take, length-drop) at c.if-body-size.false in
+    only_bad _ c.from_residual.ensures.0 ∙ sym (unknown _ _ r (omega arith) _ (sym c.try_from.ensures ∙ c.in_err-tag.was))
 
-pub returns-then-end-start : goal.returns-then-end-start
-returns-then-end-start c =
-    sym (body_cut c.args.tape.now c.args.c.at (omega arith) (omega arith) c.size_at-size.result c.size_at-size.ensures c.if-end-start.true)
+pub returns-then-not-fits : goal.returns-then-not-fits
+returns-then-not-fits c =
+    let r = reads c.args.tape.now c.args.c.at _ (omega arith) c.in-len3-up.len_at_least c.from_be_bytes-size.ensures in
+    let whole = simp (length-take, length-drop) at c.if-body-size.false in
+    sym (odd _ _ r (omega arith) _ (sym c.try_from.ensures ∙ c.in_ok-tag.was) (sym c.fits.ensures ∙ c.if-not-fits.true))
 
-pub returns-then-is_known : goal.returns-then-is_known
-returns-then-is_known c =
-    sym (rw c.if-is_known.true at (whole c.args.tape.now c.args.c.at (omega arith) (omega arith) c.size_at-size.result c.size_at-size.ensures c.is_known.result c.is_known.ensures c.if-end-start.false))
-
-pub returns-else-is_known : goal.returns-else-is_known
-returns-else-is_known c =
-    sym (rw c.if-is_known.false at (whole c.args.tape.now c.args.c.at (omega arith) (omega arith) c.size_at-size.result c.size_at-size.ensures c.is_known.result c.is_known.ensures c.if-end-start.false))
+pub returns : goal.returns
+returns c =
+    let r = reads c.args.tape.now c.args.c.at _ (omega arith) c.in-len3-up.len_at_least c.from_be_bytes-size.ensures in
+    let whole = simp (length-take, length-drop) at c.if-body-size.false in
+    sym (even _ _ r (omega arith) _ (sym c.try_from.ensures ∙ c.in_ok-tag.was) (sym c.fits.ensures ∙ c.if-not-fits.false))

@@ -1,44 +1,28 @@
 -- What was written, and the hex of the bytes that are left, are the hex of all.
 use mathlib.Core.Path.{◌≡◌}
 use mathlib.Core.List.{◌∷◌}
-use Prim.Native.Nat.{◌+◌, ◌-◌, ◌≤◌}
+use Prim.Native.Nat.{◌+◌}
 use native.Mathlib.Numerals.{add-one}
 use native.Mathlib.Omega.{arith}
-use lib.ListN.{length, drop, get_or}
+use lib.ListN.{drop, get_or}
 use lib.Seq.{drop-cons}
-use Rattle.lists.proofs.Filling.{nothing_filled, room_done, still_long, run_room, run_more, run_done}
+use Rattle.lists.proofs.Filling.{run_room, run_more, run_done}
 use Rattle.tape.specs.Lines.{hex_byte}
 use Rattle.tape.proofs.lines.put_hex_bytes.Goals as goal
 
-pub loop-i-init : goal.loop-i-init
-loop-i-init c = (omega arith, nothing_filled _ _)
+pub put_hex_byte-n-requires : goal.put_hex_byte-n-requires
+put_hex_byte-n-requires c =
+    let bytes = c.args.bytes.now in
+    let i = c.loop-b.b-index in
+    let next : drop i bytes ≡ get_or bytes i 0 ∷ drop (i + 1) bytes = rw (add-one i) (drop-cons bytes i 0 c.loop-b-test.true) in
+    run_room hex_byte bytes i _ next c.loop-b.invariant.1 c.requires
 
-pub slice_bounds-put_hex_byte-count : goal.slice_bounds-put_hex_byte-count
-slice_bounds-put_hex_byte-count c =
-    let within : c.loop-i.n ≤ length c.loop-i.out = let room = c.requires in omega (arith, room_done c.loop-i.invariant.1 room, still_long c.loop-i.invariant.1 room) in
-    within
-
-pub slice_bounds-put_hex_byte-start : goal.slice_bounds-put_hex_byte-start
-slice_bounds-put_hex_byte-start c =
-    let within : c.loop-i.n ≤ length c.loop-i.out = let room = c.requires in omega (arith, room_done c.loop-i.invariant.1 room, still_long c.loop-i.invariant.1 room) in
-    within
-
-pub put_hex_byte-w-requires : goal.put_hex_byte-w-requires
-put_hex_byte-w-requires c =
-    let next : drop c.loop-i.i c.args.bytes.now ≡ get_or c.args.bytes.now c.loop-i.i 0 ∷ drop (c.loop-i.i + 1) c.args.bytes.now = let bytes = c.args.bytes.now in rw (add-one c.loop-i.i) (drop-cons bytes c.loop-i.i 0 c.loop-i-test.true) in
-    run_room hex_byte c.args.bytes.now c.loop-i.i _ next c.loop-i.invariant.1 c.requires
-
-pub overflow_add-n : goal.overflow_add-n
-overflow_add-n c =
-    let next : drop c.loop-i.i c.args.bytes.now ≡ get_or c.args.bytes.now c.loop-i.i 0 ∷ drop (c.loop-i.i + 1) c.args.bytes.now = let bytes = c.args.bytes.now in rw (add-one c.loop-i.i) (drop-cons bytes c.loop-i.i 0 c.loop-i-test.true) in
-    let more = run_more hex_byte c.args.bytes.now c.loop-i.i _ next c.loop-i.invariant.1 c.requires _ _ c.put_hex_byte-w.ensures in
-    omega (arith, room_done more c.requires, c.well_formed.1.0.0)
-
-pub loop-i-preserved : goal.loop-i-preserved
-loop-i-preserved c =
-    let next : drop c.loop-i.i c.args.bytes.now ≡ get_or c.args.bytes.now c.loop-i.i 0 ∷ drop (c.loop-i.i + 1) c.args.bytes.now = let bytes = c.args.bytes.now in rw (add-one c.loop-i.i) (drop-cons bytes c.loop-i.i 0 c.loop-i-test.true) in
-    (omega arith, run_more hex_byte c.args.bytes.now c.loop-i.i _ next c.loop-i.invariant.1 c.requires _ _ c.put_hex_byte-w.ensures)
+pub loop-b-preserved : goal.loop-b-preserved
+loop-b-preserved c =
+    let bytes = c.args.bytes.now in
+    let i = c.loop-b.b-index in
+    let next : drop i bytes ≡ get_or bytes i 0 ∷ drop (i + 1) bytes = rw (add-one i) (drop-cons bytes i 0 c.loop-b-test.true) in
+    (omega arith, run_more hex_byte bytes i _ next c.loop-b.invariant.1 c.requires _ _ c.put_hex_byte-n.ensures)
 
 pub returns : goal.returns
-returns c =
-    run_done hex_byte c.args.bytes.now c.loop-i.i c.loop-i-test.false c.loop-i.invariant.1
+returns c = run_done hex_byte c.args.bytes.now c.loop-b.b-index c.loop-b-test.false c.loop-b.invariant.1

@@ -1,0 +1,21 @@
+use mathlib.Core.Path.{◌≡◌, refl}
+use Rattle.std.specs.Prelude.{None}
+use borrow.Author.Rules.{rules}
+use Rattle.session_arrays.specs.PrinterArrays.{arrays_in}
+use Rattle.session_arrays.proofs.PrinterInPlace.{in_place_room, byte_in_place, byte_stays}
+use Rattle.session_arrays.proofs.printer_arrays.LentPrinterArrays.read_in_place.Goals as goal
+
+pub read-requires : goal.read-requires
+read-requires c =
+    let both = in_place_room (arrays_in c.args.self.now) c.args.b c.args.paper.now c.args.wire.now c.requires in
+    rw c.parts_in.ensures (record { room_for = both.0; room_for_2 = both.1 })
+
+pub returns-clause-reads : goal.returns-clause-reads
+returns-clause-reads c =
+    byte_in_place (arrays_in c.args.self.now) c.args.b (rw c.parts_in.ensures at c.in_ok-read.ensures) c.put_in_place.ensures
+
+pub returns-in_err-read-clause-reads : goal.returns-in_err-read-clause-reads
+returns-in_err-read-clause-reads c =
+    let none : c.from_residual.result ≡ None = search rules in
+    let stays = byte_stays (arrays_in c.args.self.now) c.args.b (rw c.parts_in.ensures at c.in_err-read.ensures) in
+    rw none (refl, stays.0, stays.1)
