@@ -30,6 +30,7 @@ const ALL: [Kind; 8] = [
     Kind::Asks,
 ];
 
+// No TryFrom: there is nothing to tell of a letter that is none.
 fn kind_of(letter: u8) -> Option<Kind> {
     match letter {
         b'n' => Some(Kind::NetworkBytes),
@@ -166,6 +167,7 @@ fn run_asks(rt: &impl Print, mut state: Printer, times: usize) {
 }
 
 fn run(rt: &impl Print, s: Printer, times: usize, kind: Kind) {
+    // a match on the kind: each has other arguments
     match kind {
         Kind::NetworkBytes => run_network_bytes(rt, s, times),
         Kind::Runs => run_text(rt, "runs of network bytes", s, times),
@@ -178,7 +180,8 @@ fn run(rt: &impl Print, s: Printer, times: usize, kind: Kind) {
     }
 }
 
-// A decimal number up to its first byte that is no digit; nine digits are enough.
+// A decimal number up to its first byte that is no digit; nine digits are enough. By hand: `parse` takes a
+// whole text, and knows no limit of nine digits.
 fn number(text: &[u8]) -> usize {
     let mut n: usize = 0;
     for b in text {

@@ -160,11 +160,10 @@ pub fn reply_body(body: &[u8]) -> Option<MacroReply>
 pub fn bad_value(d: Disposition, v: u8) -> bool
     ensures { result ≡ is_bad_value d v }
 {
-    match d {
-        Disposition::Naocrd => v == 251 || v == 253,
-        Disposition::Naolfd => v == 251,
-        Disposition::Naoffd | Disposition::Naohtd => false,
-    }
+    matches!(
+        (d, v),
+        (Disposition::Naocrd, 251 | 253) | (Disposition::Naolfd, 251)
+    )
 }
 
 #[tactic(auto, unfolding(crate::specs::ValueBodies::value_body))]

@@ -11,6 +11,7 @@ ghost use Rattle.bulletin.specs.Refinement.{view_bulletin, body_end_read, Refine
 use crate::{Bulletin, Step, moves};
 use bodies::MacroReply;
 use codes::{DR, Disposition, Note};
+use disposition::Values;
 use negotiation::End;
 use sent_macros::{SendingTable, Written};
 use subnegotiation::Subject;
@@ -22,7 +23,10 @@ fn value_read(s: Bulletin, d: Disposition, body: &[u8]) -> Step
     let Some(value) = bodies::value_body(d, DR, body) else {
         return Step::notes(Note::Unreadable, s);
     };
-    let values = disposition::with_dr(s.values.of(d), value);
+    let values = Values {
+        dr: value,
+        ..s.values.of(d)
+    };
     Step::sends(moves::with_values(s, d, values), 0)
 }
 
@@ -72,11 +76,11 @@ fn reply_read(s: Bulletin, body: &[u8], wire: &mut [u8]) -> Step
 }
 
 // A body by its option, or the note that ends its handling.
-fn handled(s: Bulletin, body: &[u8], checked: Result<Subject, Note>, wire: &mut [u8]) -> Step
-    requires { RoomFor (body_handled (view_bulletin s) body.now checked).wire wire.old }
-    ensures { RefinesStepOnWire (body_handled (view_bulletin s) body.now checked) s (lent wire) result }
+fn handled(s: Bulletin, body: &[u8], subject: Result<Subject, Note>, wire: &mut [u8]) -> Step
+    requires { RoomFor (body_handled (view_bulletin s) body.now subject).wire wire.old }
+    ensures { RefinesStepOnWire (body_handled (view_bulletin s) body.now subject) s (lent wire) result }
 {
-    match checked {
+    match subject {
         Err(note) => Step::notes(note, s),
         Ok(Subject::Rcte) => Step::notes(Note::OtherOption, s),
         Ok(Subject::Disposes(d)) => value_read(s, d, body),
@@ -89,11 +93,10 @@ pub fn body_read(s: Bulletin, wire: &mut [u8]) -> Step
     requires { RoomFor (body_end_read (view_bulletin s)).wire wire.old }
     ensures { RefinesStepOnWire (body_end_read (view_bulletin s)) s (lent wire) result }
 {
-    let kept = s.reader;
-    let checked = subnegotiation::body_checked(End::Bulletin, s.sides, kept);
+    let subject = subnegotiation::body_checked(End::Bulletin, s.sides, s.reader);
     let t = Bulletin {
         reader: reader::idle(),
         ..s
     };
-    handled(t, &kept.body[..reader::body_len(kept.len)], checked, wire)
+    handled(t, s.reader.kept_body(), subject, wire)
 }

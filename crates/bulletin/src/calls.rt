@@ -28,9 +28,10 @@ ghost use Rattle.bulletin.specs.Refinement.{view_bulletin, WholeBulletin, Refine
 
 use crate::{Answer, Bulletin, Output, RunAnswer, Standing, Step, items, moves, network, run};
 use codes::{Code, DS, Disposition, Each, IAC, Note};
-use disposition::Handlings;
+use disposition::{Handlings, Values};
+use issues::Issues;
 use keys::Key;
-use negotiation::{End, Turn};
+use negotiation::End;
 use sent_macros::Status;
 
 pub fn fresh() -> Bulletin
@@ -59,6 +60,7 @@ fn refused(s: Bulletin, code: Code) -> Answer
     }
 }
 
+// No From: its clause says besides that the state's arrays are whole.
 fn done(step: Step) -> Answer
     ensures { (result ≡ answered step) × WholeBulletin step.state }
 {
@@ -98,18 +100,9 @@ pub fn ask(s: Bulletin, option: u8, way: u8, wire: &mut [u8]) -> Answer
     if codes::no_wire(wire.len()) {
         return refused(s, Code::NoRoom);
     }
-    let side = negotiation::asked_side(End::Bulletin, option, way);
-    match negotiation::asking_of(s.sides, side, negotiation::asked_enable(way)) {
+    match negotiation::asked_by(End::Bulletin, s.sides, option, way) {
         Err(code) => refused(s, code),
-        Ok(asked) => {
-            let turn = Turn {
-                side,
-                next: asked.next,
-                whose: negotiation::asked_whose(way),
-                reply: asked.reply,
-            };
-            done(moves::moved_with_reply(s, turn, option, wire))
-        }
+        Ok(turn) => done(moves::moved_with_reply(s, turn, option, wire)),
     }
 }
 
@@ -124,7 +117,7 @@ fn suggest_of(s: Bulletin, v: u8, d: Disposition, wire: &mut [u8]) -> Answer
         return refused(s, code);
     }
     let n = disposition::put_suggestion(d, DS, v, wire);
-    let t = moves::with_values(s, d, disposition::with_ds(old, v));
+    let t = moves::with_values(s, d, Values { ds: v, ..old });
     done(Step::sends(t, n))
 }
 
@@ -275,7 +268,10 @@ pub fn issue(s: Bulletin, n: u16, wire: &mut [u8]) -> Answer
         return refused(s, Code::NoRoom);
     }
     let t = Bulletin {
-        issues: issues::with_present(s.issues, n),
+        issues: Issues {
+            present: n,
+            ..s.issues
+        },
         ..s
     };
     done(Step::sends(t, 0))

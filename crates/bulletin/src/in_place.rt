@@ -1,4 +1,6 @@
-// Network bytes read from the sides, the phase and the waits alone, so that the rest of the state stays where it lies.
+// Network bytes read from the sides, the phase and the waits alone, so that the rest of the state stays where it lies: `network` reads
+// the same bytes by value, and this is for the rows of IAC and SGA in docs/PERFORMANCE.md. The printer end's differs: RCTE's hold and the macros say there what is printed; here the waits do not, and
+// data is always given.
 ghost use Rattle.std.specs.Prelude.{◌≡◌};
 ghost use Rattle.lists.specs.Buffers.{lent, RoomFor};
 ghost use Rattle.bulletin.specs.InPlace.{moves_alone, gives_data, phase_moves, negotiated_in_place, item_in_place, in_place_read, HasRoom, HasRoomOnWire, RefinesInPlace, RefinesInPlaceOnHost, RefinesInPlaceOnWire};
@@ -24,7 +26,8 @@ pub struct InPlace {
     pub wire: usize,
 }
 
-// BM's side empties its table, and that of an option about output disposition forgets its values.
+// Nothing but its state follows as the side moves: BM's empties its table, and that of an option about output disposition forgets its
+// values.
 fn moves_alone(side: Side) -> bool
     ensures { result ≡ moves_alone side }
 {
@@ -74,18 +77,17 @@ fn item_read(parts: Parts, read: PhaseRead, host: &mut [u8], wire: &mut [u8]) ->
     requires { HasRoom (item_in_place parts read) host.old wire.old }
     ensures { RefinesInPlace (item_in_place parts read) (lent host) (lent wire) result }
 {
-    let next = read.phase;
     match read.item {
         Item::Nothing => Some(InPlace {
             parts: Parts {
-                phase: next,
+                phase: read.phase,
                 ..parts
             },
             host: 0,
             wire: 0,
         }),
-        Item::Data(b) => Some(data_read(parts, next, b, host)),
-        Item::Negotiated(v, option) => negotiated(parts, next, v, option, wire),
+        Item::Data(b) => Some(data_read(parts, read.phase, b, host)),
+        Item::Negotiated(v, option) => negotiated(parts, read.phase, v, option, wire),
         Item::BodyEnd | Item::StrayCommand => None,
     }
 }

@@ -20,11 +20,7 @@ const ORDER_ROOM: usize = 6;
 pub fn bad_order(cmd: u8) -> bool
     ensures { result ≡ bad_order cmd }
 {
-    match cmd {
-        0 => false,
-        1..=31 => cmd % 2 != 1,
-        _ => true,
-    }
+    !(cmd == 0 || cmd % 2 == 1 && cmd <= 31)
 }
 
 // A class pair, if its bit is on.
@@ -81,7 +77,8 @@ fn wait_after(waits: Waits, h: Handlings, k: Key, d: Disposition) -> bool
     waits.of(d) || disposition::takes_part(k, d) && disposition::awaits(h.of(d))
 }
 
-// .. for each of them.
+// For which options output waits once an item is sent. Each is written out, and not by a closure over the options: within
+// a generic function the check reads nothing off a closure's body.
 pub fn waits_after(s: Bulletin, k: Key) -> Waits
     ensures { result ≡ waits_after (view_bulletin s) k }
 {

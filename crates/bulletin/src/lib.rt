@@ -21,8 +21,8 @@ mod network;
 mod run;
 pub mod stretches;
 
-// The whole state: negotiation, reader, macros, the values about output disposition, for which options output waits
-// (254), and the forecast issue with those that the definitions kept.
+// The whole state: negotiation, reader, macros, the values about output disposition, for which options output waits, by the value 254,
+// and the forecast issue with those that the definitions kept.
 #[derive(Clone, Copy)]
 pub struct Bulletin {
     pub sides: Sides,
@@ -33,7 +33,8 @@ pub struct Bulletin {
     pub issues: Issues,
 }
 
-// A step: its note, how many bytes went to the host and to the wire, and the state after it.
+// A step: its note, how many bytes went to the host and to the wire, and the state after it. A struct of this end's own, as the answers
+// below: `RefinesRun` and the traces name `paper` at the printer end and `host` here.
 #[derive(Clone, Copy)]
 pub struct Step {
     pub note: Note,
@@ -66,7 +67,7 @@ impl Step {
     }
 }
 
-// A call's answer.
+// A call's answer: no Result, for a refusal has its state, its note and its counts too, which the contracts and the claims name.
 #[derive(Clone, Copy)]
 pub struct Answer {
     pub code: Code,

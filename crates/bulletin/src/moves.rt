@@ -1,4 +1,5 @@
-// Negotiation: what is heard, and what follows as a side's state changes.
+// Negotiation: what is heard, and what follows as a side's state changes. Each end has its own: RCTE ends with keys to send at the
+// printer end alone, and the macros go at other states (`printer/Network.side_moved`, `bulletin/Network.side_state`).
 ghost use Rattle.lists.specs.Buffers.{lent, RoomFor};
 ghost use Rattle.negotiation.specs.Carried.{reply_bytes};
 ghost use Rattle.bulletin.specs.State.{with_values};
@@ -38,7 +39,7 @@ fn macro_moved(s: Bulletin, q: OptionState) -> Bulletin
     }
 }
 
-// .. and forgets the values of an option about output disposition.
+// Leaving YES forgets the values of an option about output disposition.
 fn disposition_moved(s: Bulletin, d: Disposition, q: OptionState) -> Bulletin
     ensures { RefinesState (side_state (view_bulletin s) (Disposes d) q) s result }
 {

@@ -1,4 +1,4 @@
-// The bulletin end reads runs of network bytes.
+// The bulletin end reads runs of network bytes. As the printer end's: what is common is `reader::read_bytes`; the answers differ in type.
 ghost use Rattle.std.specs.Prelude.{◌≡◌};
 ghost use Rattle.lists.specs.Buffers.{lent};
 ghost use Rattle.bulletin.specs.State.{BulletinState, Effect, CallEffect};
@@ -59,7 +59,7 @@ pub fn refused(s: Bulletin, code: Code) -> RunAnswer
     }
 }
 
-// A run whose first byte has room.
+// A run that was not refused.
 pub fn read_bytes(s: Bulletin, bytes: &[u8], host: &mut [u8], wire: &mut [u8]) -> RunAnswer
     ensures { RefinesRun (begun_run (view_bulletin s) bytes.now) s (lent host) (lent wire) result }
 {

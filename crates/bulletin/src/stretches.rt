@@ -1,4 +1,5 @@
-// How many bytes are plain, so that they are given to the host by one copy and the state is not looked at for each.
+// How many bytes are plain, so that they are given to the host by one copy and the state is not looked at for each. Free functions: they
+// ask the phase and the waits alone, and `in_place::Parts` has the sides too.
 ghost use Rattle.std.specs.Prelude.{◌≡◌};
 ghost use Rattle.bulletin.specs.Stretches.{data_stretch, is_plain_byte};
 

@@ -65,11 +65,6 @@ is_done c = eqb (code_number c) 0
 abbrev pub is_clear : Note → Bool
 is_clear n = eqb (note_number n) 0
 
--- the code of the first guard that holds, in the order of the list; Done if none does
-unfoldable pub refusal_of : List Guard → Code
-refusal_of [] = Done
-refusal_of (g ∷ gs) = cond g.holds g.code (refusal_of gs)
-
 -- a call's answer: that of the first guard that holds, in the order of the list, else what the call does
 unfoldable pub guarded : {A : Type 0} → List Guard → (Code → A) → A → A
 guarded [] refused done = done

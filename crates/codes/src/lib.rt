@@ -1,8 +1,9 @@
-// What a call answers: a code and a note. Which side of an option is meant. Telnet's and the options' numbers.
+// What a call answers: a code and a note. Which side of an option is meant. Telnet's and the options' numbers, and what has an entry
+// for each option about output disposition.
 #![tactic(auto)]
 
 ghost use Rattle.std.specs.Prelude.{◌≡◌};
-ghost use Rattle.codes.specs.Answers.{code_number, note_number, first_note, no_room, no_wire, is_done, is_clear};
+ghost use Rattle.codes.specs.Answers.{code_number, note_number, first_note, no_room, no_wire};
 ghost use Rattle.codes.specs.Telnet.{verb_number, whose_of, enables, plain_command, other_side};
 ghost use Rattle.codes.specs.Dispositions.{option_number, disposition_numbered, entry_of, with_entry, for_each};
 
@@ -66,7 +67,8 @@ pub const LITERAL: u8 = 4;
 
 pub const PLEASE_CANCEL: u8 = 5;
 
-// The two ways of a disposition's body: from the printer end, and from the bulletin end.
+// The two ways of a disposition's body: from the printer end, and from the bulletin end. Numbers, as each is a byte of the wire, and
+// in C says who handles.
 pub const DR: u8 = 0;
 
 pub const DS: u8 = 1;
@@ -76,7 +78,8 @@ pub const PAPER_ROOM: usize = 1024;
 
 pub const WIRE_ROOM: usize = 4096;
 
-// Every code but Done is a refusal: the state and the lent bytes do not change.
+// Every code but Done is a refusal: the state and the lent bytes do not change. Done is one of them, as each answer has a number in C
+// (PRAMBOW_DONE); a refusal alone is a Result.
 #[derive(Clone, Copy, PartialEq, Eq)]
 pub enum Code {
     Done,
@@ -96,7 +99,8 @@ pub enum Code {
     IssueDiffers,
 }
 
-// What a network byte's answer says of a body or a command that was not acted on.
+// What a network byte's answer says of a body or a command that was not acted on. Clear is a case and no Option: an answer has a
+// number for it in C (PRAMBOW_CLEAR).
 #[derive(Clone, Copy, PartialEq, Eq)]
 pub enum Note {
     Clear,
@@ -176,7 +180,7 @@ impl<T: Copy> Each<T> {
     }
 }
 
-// The number that a code is known by.
+// The number that a code is known by, as prambow.h has it.
 impl From<Code> for u8 {
     ghost from_gives = { λ c n. n ≡ code_number c };
 
@@ -215,7 +219,7 @@ impl From<Note> for u8 {
     }
 }
 
-// The byte behind IAC.
+// The byte after IAC.
 impl From<Verb> for u8 {
     ghost from_gives = { λ v n. n ≡ verb_number v };
 
@@ -242,7 +246,7 @@ impl From<Disposition> for u8 {
     }
 }
 
-// The one of them that a number belongs to, if any.
+// The one of them that a number belongs to, if any. No TryFrom: there is no error to tell of, and each caller has its own.
 #[tactic(auto, unfolding(crate::specs::Dispositions::disposition_numbered))]
 pub fn disposition_numbered(option: u8) -> Option<Disposition>
     ensures { result ≡ disposition_numbered option }
@@ -274,18 +278,6 @@ pub fn no_wire(wire: usize) -> bool
     ensures { result ≡ no_wire wire }
 {
     wire < WIRE_ROOM
-}
-
-pub fn is_done(c: Code) -> bool
-    ensures { result ≡ is_done c }
-{
-    c == Code::Done
-}
-
-pub fn is_clear(n: Note) -> bool
-    ensures { result ≡ is_clear n }
-{
-    n == Note::Clear
 }
 
 // The side that a verb received is about.

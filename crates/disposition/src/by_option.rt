@@ -1,6 +1,6 @@
 // The two values of an option, and for which options output waits.
 ghost use Rattle.std.specs.Prelude.{◌≡◌, ◌&&◌};
-ghost use Rattle.disposition.specs.ByOption.{unspoken, with_ds, with_dr, wait_of, with_wait_of, is_waiting};
+ghost use Rattle.disposition.specs.ByOption.{unspoken, wait_of, with_wait_of, is_waiting};
 ghost use Rattle.disposition.specs.Handled.{handling};
 ghost use Rattle.disposition.specs.ItemData.{awaits};
 
@@ -19,18 +19,6 @@ pub fn unspoken() -> Values
         ds: UNSPOKEN_DS,
         dr: UNSPOKEN_DR,
     }
-}
-
-pub fn with_ds(v: Values, ds: u8) -> Values
-    ensures { result ≡ with_ds v ds }
-{
-    Values { ds, ..v }
-}
-
-pub fn with_dr(v: Values, dr: u8) -> Values
-    ensures { result ≡ with_dr v dr }
-{
-    Values { dr, ..v }
 }
 
 // Whether output waits, for any option.

@@ -83,7 +83,7 @@ pub fn put_suggestion(d: Disposition, who: u8, v: u8, out: &mut [u8]) -> usize
     wire::put_frame(&[u8::from(d), who, v], out)
 }
 
-// The first refusal of a suggestion behind codes 1 and 4, if any; own is the value that counts for this end.
+// The first refusal of a suggestion after codes 1 and 4, if any; own is the value that counts for this end.
 #[tactic(auto, unfolding(codes::specs::Answers::allowed))]
 pub fn suggest_refusal(d: Disposition, on: bool, own: u8, v: u8) -> Result<(), Code>
     ensures { result ≡ allowed (suggest_guards d on own v) }

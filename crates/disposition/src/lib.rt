@@ -8,7 +8,7 @@ mod by_option;
 mod handled;
 mod item_data;
 
-pub use by_option::{is_waiting, unspoken, waits_while, with_dr, with_ds};
+pub use by_option::{is_waiting, unspoken, waits_while};
 pub use handled::{
     handler_number, handling_by, handling_in, handling_value, handlings_in, put_suggestion,
     suggest_refusal,

@@ -3,7 +3,7 @@ use mathlib.Core.List.{flat_map}
 use Rattle.lists.specs.Choice.{one_of}
 use Rattle.lists.specs.Lists.{sum}
 use Rattle.codes.specs.Answers.{guarded}
-use Rattle.keys.specs.Keys.{class_of, in_classes, prints, key_paper, key_wire}
+use Rattle.keys.specs.Keys.{key_of_pair, class_of, in_classes, prints, key_paper, key_wire}
 use Rattle.wire.specs.Frames.{coded, frame}
 use Rattle.negotiation.specs.Carried.{printer_side, clashes, heard_by, asked_side, asking_of}
 use Rattle.negotiation.specs.Table.{heard, asked}
@@ -28,7 +28,7 @@ use Rattle.tape.specs.Lines.{hex_byte, line_of, shown, bad_tape}
 use Rattle.tape.specs.Running.{pair_of, item_answer, items_run, fields_run, tape_output}
 
 unfoldable pub layer_rules : Unit {0}
-unfolding one_of sum flat_map guarded disposition_numbered class_of in_classes prints key_paper key_wire coded frame printer_side clashes heard_by asked_side asking_of heard asked keeping command_read body_command_read read by_option option_checked checked macro_body rcte_body value_body total defined judged is_full pressed released commanded rcte_ended is_break is_send taken_up handling
+unfolding one_of sum flat_map guarded disposition_numbered class_of in_classes prints key_of_pair key_paper key_wire coded frame printer_side clashes heard_by asked_side asking_of heard asked keeping command_read body_command_read read by_option option_checked checked macro_body rcte_body value_body total defined judged is_full pressed released commanded rcte_ended is_break is_send taken_up handling
 layer_rules = tt
 
 unfoldable pub printer_rules : Unit {0}

@@ -4,7 +4,7 @@
 ghost use Rattle.std.specs.Prelude.{◌≡◌};
 ghost use Rattle.codes.specs.Answers.{allowed};
 ghost use Rattle.sent_macros.specs.Refinement.{bare_table};
-ghost use Rattle.issues.specs.Issues.{first_issue, with_present, kept_of, keeping, forgetting, kept_after, macro_guards};
+ghost use Rattle.issues.specs.Issues.{first_issue, kept_of, keeping, forgetting, kept_after, macro_guards};
 
 use bodies::MacroReply;
 use codes::Code;
@@ -12,7 +12,8 @@ use codes::Code;
 // A number for each byte.
 const BYTES: usize = 256;
 
-// The number in force; of a byte that was not defined 0 is kept.
+// The number in force, and one kept for each byte, 0 of one that was not defined: one cell for each byte, as a host lends them to
+// the library for C.
 #[derive(Clone, Copy)]
 pub struct Issues {
     pub present: u16,
@@ -27,13 +28,6 @@ pub fn first() -> Issues
         present: 0,
         kept: [0; BYTES],
     }
-}
-
-// Another number in force; what was kept stays.
-pub fn with_present(i: Issues, n: u16) -> Issues
-    ensures { result ≡ with_present i n }
-{
-    Issues { present: n, ..i }
 }
 
 // The number that the last DEFINE of a byte kept.
@@ -62,7 +56,7 @@ pub fn forget(i: Issues) -> Issues
     }
 }
 
-// Behind an answer about a macro; the numbers of the statuses say which bytes are accepted.
+// After an answer about a macro; the numbers of the statuses say which bytes are accepted.
 pub fn kept_after(statuses: &[u8; BYTES], i: Issues, reply: MacroReply) -> Issues
     ensures { result ≡ kept_after (bare_table statuses.now) i reply }
 {

@@ -1,9 +1,10 @@
 -- Keys: their classes, their paper and their bytes on the wire.
-use Rattle.std.specs.Prelude.{Bool, true, false, ◌||◌, not, cond, List, [], ◌∷◌, ℕ, ◌-◌, ◌/◌, ◌%◌, ◌^◌, leb, eqb}
+use Rattle.std.specs.Prelude.{Bool, true, false, ◌||◌, not, cond, List, [], ◌∷◌, ℕ, ◌-◌, ◌/◌, ◌%◌, ◌^◌, leb, eqb, Result, Ok, Err}
 use Rattle.lists.specs.Choice.{between, one_of}
 use Rattle.codes.specs.Telnet.{plain_command, IAC, NUL, LF, CR}
 use Rattle.keys.specs.declared.Key.{Key}
 use Rattle.keys.specs.declared.Key.TheVariants.{Char, Line, Command}
+use Rattle.keys.specs.declared.NoKey.{NoKey}
 
 -- BS HT LF VT FF CR
 abbrev pub format_effectors : List ℕ
@@ -70,3 +71,12 @@ unfoldable pub key_wire : Key → List ℕ
 key_wire (Char b) = cond (eqb b CR) (CR ∷ NUL ∷ []) (cond (eqb b IAC) (IAC ∷ IAC ∷ []) (b ∷ []))
 key_wire Line = CR ∷ LF ∷ []
 key_wire (Command c) = IAC ∷ c ∷ []
+
+abbrev pub no_key : NoKey
+no_key = record {}
+
+-- a pair (0, b) is Char(b), (1, 0) is Line, (2, c) is Command(c); no other stands for a key
+unfoldable pub key_of_pair : ℕ → ℕ → Result Key NoKey
+key_of_pair kind b =
+    cond (eqb kind 0) (Ok (Char b))
+    (cond (eqb kind 2) (Ok (Command b)) (cond (eqb kind 1) (cond (eqb b 0) (Ok Line) (Err no_key)) (Err no_key)))

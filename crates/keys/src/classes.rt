@@ -1,7 +1,8 @@
-// RFC 726's list of the classes, in its order and with its characters, to be held beside the paper class by class.
-// One match over all of them would be compiled to a table, and none is to be stored: so each list is a test of its own.
+// RFC 726's list of the classes, in its order and with its characters, so that it can be compared with the RFC class by class.
+// One match over all of them would be compiled to a table, and none is to be stored (request A4, docs/DECISIONS.md P4): so each list
+// is a test of its own.
 ghost use Rattle.std.specs.Prelude.{◌≡◌, ◌||◌, leb, eqb, Some};
-ghost use Rattle.lists.specs.Choice.{between, one_of};
+ghost use Rattle.lists.specs.Choice.{one_of};
 ghost use Rattle.keys.specs.Keys.{class_of, format_effectors, punctuation, brackets, symbols};
 ghost use Rattle.keys.specs.Refinement.{class_number};
 
@@ -53,13 +54,13 @@ impl From<Class> for u8 {
 pub fn class_of(b: u8) -> Option<Class>
     ensures { class_number result ≡ class_of b }
 {
-    if is_between(b'A', b'Z', b) {
+    if (b'A'..=b'Z').contains(&b) {
         return Some(Class::Upper);
     }
-    if is_between(b'a', b'z', b) {
+    if (b'a'..=b'z').contains(&b) {
         return Some(Class::Lower);
     }
-    if is_between(b'0', b'9', b) {
+    if (b'0'..=b'9').contains(&b) {
         return Some(Class::Digit);
     }
     if is_format_effector(b) {
@@ -81,12 +82,6 @@ pub fn class_of(b: u8) -> Option<Class>
         return Some(Class::Space);
     }
     None
-}
-
-fn is_between(low: u8, high: u8, b: u8) -> bool
-    ensures { result ≡ between low high b }
-{
-    low <= b && b <= high
 }
 
 // A Line, which is CR LF, is a format effector too (key_class).

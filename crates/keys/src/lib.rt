@@ -3,7 +3,7 @@
 
 ghost use Rattle.std.specs.Prelude.{◌≡◌};
 ghost use Rattle.lists.specs.Buffers.{lent, WroteAtStart, RoomFor};
-ghost use Rattle.keys.specs.Keys.{bad_command, key_class, class_bit, in_classes, is_command, prints, key_paper};
+ghost use Rattle.keys.specs.Keys.{bad_command, key_class, class_bit, in_classes, is_command, prints, key_paper, key_of_pair};
 ghost use Rattle.keys.specs.Refinement.{class_number, key_number, key_of_number};
 
 use codes::{CR, LF};
@@ -48,15 +48,7 @@ fn bit_of(pair: u16, class: u8) -> u16
     ensures { result ≡ class_bit pair class }
 {
     match class {
-        1 => pair % 2,
-        2 => pair / 2 % 2,
-        3 => pair / 4 % 2,
-        4 => pair / 8 % 2,
-        5 => pair / 16 % 2,
-        6 => pair / 32 % 2,
-        7 => pair / 64 % 2,
-        8 => pair / 128 % 2,
-        9 => pair / 256 % 2,
+        1..=9 => (pair >> (class - 1)) % 2,
         _ => 0,
     }
 }
@@ -132,6 +124,27 @@ impl From<u16> for Key {
             0..LINE => Key::Char(n as u8),
             LINE..COMMAND => Key::Line,
             _ => Key::Command((n % 256) as u8),
+        }
+    }
+}
+
+// A pair of bytes that stands for no key.
+#[derive(Clone, Copy, Debug, PartialEq, Eq)]
+pub struct NoKey;
+
+// A key by its kind and its byte, as a tape and C have it.
+impl TryFrom<(u8, u8)> for Key {
+    type Error = NoKey;
+
+    ghost try_from_gives = { λ p r. r ≡ key_of_pair p.0 p.1 };
+
+    #[tactic(auto, unfolding(crate::specs::Keys::key_of_pair))]
+    fn try_from(pair: (u8, u8)) -> Result<Self, NoKey> {
+        match pair {
+            (0, b) => Ok(Key::Char(b)),
+            (1, 0) => Ok(Key::Line),
+            (2, c) => Ok(Key::Command(c)),
+            _ => Err(NoKey),
         }
     }
 }

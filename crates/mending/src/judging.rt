@@ -59,11 +59,10 @@ fn body_judged(kept: Reader) -> Result<(), Reason>
     ensures { result ≡ body_judged (view_reader kept).marred (view_reader kept).body }
 {
     let checked = subnegotiation::body_checked(End::Printer, all_in_force(), kept);
-    let n = reader::body_len(kept.len);
-    shape_judged(&kept.body[..n], checked)
+    shape_judged(kept.kept_body(), checked)
 }
 
-// What a byte completes, with the reader behind it.
+// What a byte completes, with the reader after it.
 pub fn item_judged(item: Item, r: Reader) -> Result<(), Reason>
     ensures { result ≡ item_judged (view_reader r) item }
 {

@@ -89,7 +89,7 @@ fn mend_parts(capture: &[u8], out: &mut [u8], list: &mut [u8]) -> Answer
         written: 0,
         listed: 0,
     };
-    // by as much as a scan took, which no iterator knows before it
+    // No `for`: a step goes as far as the scan took, which no iterator knows before.
     while done.taken < capture.len() {
         done = done.then(scanning::scan_text(
             &capture[done.taken..],

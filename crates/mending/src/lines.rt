@@ -1,4 +1,4 @@
-// The line that tells of a drop.
+// The line that tells of a drop. No Display: the contracts say which bytes stand where in the lent list.
 ghost use Rattle.std.specs.Prelude.{◌≡◌, [], ◌∷◌};
 ghost use Rattle.lists.specs.Buffers.{lent, WroteAtStart, RoomFor};
 ghost use Rattle.codes.specs.Telnet.{LF};

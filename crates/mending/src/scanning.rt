@@ -1,4 +1,5 @@
-// The two scanners, for text and for commands. Each is done at the first byte that is the other's, and calls that for the rest.
+// The two scanners, for text and for commands. Each is done at the first byte that is the other's, and calls that for the rest,
+// where a loop would do: document 02 names this form (docs/RULES.md 12.9).
 ghost use Rattle.std.specs.Prelude.{◌+◌, ◌≤◌, ◌<◌, ◌≡◌, length, take};
 ghost use Rattle.lists.specs.Fronts.{front};
 ghost use Rattle.lists.specs.Buffers.{lent, WroteAtStart, RoomFor};

@@ -19,7 +19,7 @@ use Rattle.negotiation.specs.declared.Sides.{Sides}
 use Rattle.negotiation.specs.declared.Move.{Move}
 use Rattle.negotiation.specs.declared.Turn.{Turn}
 use Rattle.negotiation.specs.Table.{to, heard, asked, is_already}
-use Rattle.negotiation.specs.Carried.{carried_side, is_carried, clashes, state_of, may_enable, declined, turned, heard_by, asking_of, asked_by}
+use Rattle.negotiation.specs.Carried.{carried_side, is_carried, clashes, state_of, may_enable, declined, turned, heard_by, asked_whose, asked_side, asked_enable, asking_of, asked_by, asked_turn}
 
 uncarried : (side : Side) → is_carried side ≡ false → side ≡ Uncarried
 uncarried Echo e = absurd (false≢true (sym e))
@@ -66,3 +66,22 @@ module _ {A : Type 0} (P : A → Type 0) (s : Sides) (side : Side) (enable : Boo
       → ((q : OptionState) (r : Reply) → clashes s side enable ≡ false → asked enable (state_of s side) ≡ Some (to q r) → P (moves q r))
       → P (asked_by refused moves (asking_of s side enable))
   asked_cases refuses goes = asking_cases (λ (a : Result Move Code). P (asked_by refused moves a)) s side enable refuses goes
+
+-- what an end does with a refusal and with a turn
+abbrev pub by_turn : {A : Type 0} → (Code → A) → (Turn → A) → Result Turn Code → A
+by_turn refused turns (Err c) = refused c
+by_turn refused turns (Ok t) = turns t
+
+-- an ask that is answered by its outcome is answered by its turn
+pub asked_through : {A : Type 0} (end : End) (s : Sides) (option way : ℕ) (refused : Code → A) (turns : Turn → A)
+    → asked_by refused (λ q r. turns (turned (asked_whose way) (asked_side end option way) (to q r))) (asking_of s (asked_side end option way) (asked_enable way))
+    ≡ by_turn refused turns (asked_turn end s option way)
+asked_through end s option way refused turns = go (asking_of s side (asked_enable way))
+  where
+    side : Side
+    side = asked_side end option way
+
+    go : (a : Result Move Code) → asked_by refused (λ q r. turns (turned (asked_whose way) side (to q r))) a
+        ≡ by_turn refused turns (asked_by Err (λ q r. Ok (turned (asked_whose way) side (to q r))) a)
+    go (Err c) = refl
+    go (Ok m) = refl

@@ -159,3 +159,9 @@ asking_of sides side enable = guarded (ask_guards sides side enable) Err (ok_or 
 abbrev pub asked_by : {A : Type 0} → (Code → A) → (OptionState → Reply → A) → Result Move Code → A
 asked_by refused moves (Err c) = refused c
 asked_by refused moves (Ok m) = moves m.next m.reply
+
+-- an ask about an option at an end: the turn of the side that its way names
+abbrev pub asked_turn : End → Sides → ℕ → ℕ → Result Turn Code
+asked_turn end s option way =
+    let side = asked_side end option way in
+    asked_by Err (λ q r. Ok (turned (asked_whose way) side (to q r))) (asking_of s side (asked_enable way))

@@ -1,7 +1,7 @@
 // What an ask and a negotiation received come to, and replies and requests as they are written.
 ghost use Rattle.std.specs.Prelude.{◌≡◌};
 ghost use Rattle.lists.specs.Buffers.{lent, WroteAtStart, RoomFor};
-ghost use Rattle.negotiation.specs.Carried.{reply_verb, reply_bytes, declined, asked_side, asked_whose, asked_enable, asking_of, heard_by};
+ghost use Rattle.negotiation.specs.Carried.{reply_verb, reply_bytes, declined, asked_side, asked_whose, asked_enable, asking_of, asked_turn, heard_by};
 
 use crate::{End, Move, OptionState, Reply, Side, Sides, Turn, carried, table};
 use codes::{Code, Verb, Whose};
@@ -43,6 +43,20 @@ pub fn asking_of(sides: Sides, side: Side, enable: bool) -> Result<Move, Code>
         return Err(Code::EchoAgainstRcte);
     }
     table::ask(enable, carried::state_of(sides, side)).ok_or(Code::AlreadySo)
+}
+
+// What an ask about an option comes to at an end: the turn of the side that its way names, or the refusal.
+pub fn asked_by(end: End, sides: Sides, option: u8, way: u8) -> Result<Turn, Code>
+    ensures { result ≡ asked_turn end sides option way }
+{
+    let side = asked_side(end, option, way);
+    let Move { next, reply } = asking_of(sides, side, asked_enable(way))?;
+    Ok(Turn {
+        side,
+        next,
+        whose: asked_whose(way),
+        reply,
+    })
 }
 
 // The answer to a negotiation of an uncarried option: a request is declined, a withdrawal gets nothing.

@@ -22,10 +22,7 @@ use codes::{BM, Disposition, ECHO, Each, RCTE, SGA, Whose};
 fn disposing_side(option: u8) -> Side
     ensures { result ≡ of_disposition Side.Uncarried Side.Disposes (disposition_numbered option) }
 {
-    match codes::disposition_numbered(option) {
-        Some(d) => Side::Disposes(d),
-        None => Side::Uncarried,
-    }
+    codes::disposition_numbered(option).map_or(Side::Uncarried, Side::Disposes)
 }
 
 // What the printer end carries: four options on his side, five on ours.
@@ -33,18 +30,14 @@ fn disposing_side(option: u8) -> Side
 fn printer_side(w: Whose, option: u8) -> Side
     ensures { result ≡ printer_side w option }
 {
-    match w {
-        Whose::His => match option {
-            ECHO => Side::Echo,
-            SGA => Side::BulletinSga,
-            RCTE => Side::Rcte,
-            BM => Side::Macro,
-            _ => Side::Uncarried,
-        },
-        Whose::Ours => match option {
-            SGA => Side::PrinterSga,
-            _ => disposing_side(option),
-        },
+    match (w, option) {
+        (Whose::His, ECHO) => Side::Echo,
+        (Whose::His, SGA) => Side::BulletinSga,
+        (Whose::His, RCTE) => Side::Rcte,
+        (Whose::His, BM) => Side::Macro,
+        (Whose::His, _) => Side::Uncarried,
+        (Whose::Ours, SGA) => Side::PrinterSga,
+        (Whose::Ours, _) => disposing_side(option),
     }
 }
 

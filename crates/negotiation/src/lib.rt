@@ -8,7 +8,7 @@ mod carried;
 mod numbers;
 mod table;
 
-pub use asks::{asked_enable, asked_side, asked_whose, asking_of, heard_by, put_reply};
+pub use asks::{asked_by, asked_enable, asked_side, asked_whose, asking_of, heard_by, put_reply};
 pub use carried::{
     all_no, disposition_in_force, echo_in_force, macros_in_force, moved, rcte_in_force,
 };
@@ -33,6 +33,7 @@ pub enum OptionState {
 }
 
 // What the negotiation sends: nothing, the verb that enables (WILL, DO), or the one that disables (WONT, DONT).
+// Three cases, as the RFC's rows have them; an Option of a bool would not name the verbs.
 #[derive(Clone, Copy, PartialEq, Eq)]
 pub enum Reply {
     Silent,
@@ -47,7 +48,7 @@ pub struct Move {
     pub reply: Reply,
 }
 
-// What a negotiation received comes to: the side that it is about, its next state, and the reply.
+// What a negotiation received or an ask comes to: the side that it is about, its next state, and the reply or the request.
 #[derive(Clone, Copy)]
 pub struct Turn {
     pub side: Side,

@@ -4,7 +4,7 @@ ghost use Rattle.negotiation.specs.Table.{heard_enable, heard_disable, heard, as
 
 use crate::{Move, OptionState, Reply};
 
-// WILL of his side, DO of ours.
+// WILL of his side, DO of ours. One arm for each row of the RFC's table, to be compared with it.
 fn heard_enable(agreed: bool, q: OptionState) -> Move
     ensures { result ≡ heard_enable agreed q }
 {

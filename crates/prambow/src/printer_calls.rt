@@ -68,7 +68,7 @@ pub fn prambow_printer_network_byte_arrays(
         gathered,
     };
     let a = calls::network_byte(arrays.decoded(), b, paper, wire);
-    arrays.kept(a)
+    arrays.answer(a)
 }
 
 // Network bytes one after the other, as `printer::calls::network_bytes` reads them. Stops before one that would be refused, and
@@ -139,7 +139,7 @@ pub fn prambow_printer_press_arrays(
         gathered,
     };
     let a = calls::press(arrays.decoded(), numbers::key_of_pair(kind, b), paper, wire);
-    arrays.kept(a)
+    arrays.answer(a)
 }
 
 pub fn prambow_printer_ask_arrays(
@@ -169,7 +169,7 @@ pub fn prambow_printer_ask_arrays(
         gathered,
     };
     let a = calls::ask(arrays.decoded(), option, way, paper, wire);
-    arrays.kept(a)
+    arrays.answer(a)
 }
 
 pub fn prambow_printer_suggest_arrays(
@@ -199,7 +199,7 @@ pub fn prambow_printer_suggest_arrays(
         gathered,
     };
     let a = calls::suggest(arrays.decoded(), option, v, paper, wire);
-    arrays.kept(a)
+    arrays.answer(a)
 }
 
 // Of each option about output disposition who handles its character, and how. It looks at the small parts alone.

@@ -14,6 +14,7 @@ pub mod AnsweringInPlace
 pub mod MarkedBytes
 pub mod Texts
 pub mod TextStretch
+pub mod TextRest
 pub mod Runs
 pub mod Invariant
 pub mod EmptyTable

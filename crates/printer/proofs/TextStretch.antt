@@ -5,7 +5,7 @@ use Prim.Native.Nat.{ℕ, ◌+◌, ◌≤◌}
 use native.Mathlib.Omega.{arith}
 use lib.ListN.{length, take, drop, length-append, length-drop}
 use Rattle.lists.specs.Buffers.{Lent, lent_as, WroteAtStart, RoomFor}
-use Rattle.lists.proofs.Parts.{rest_of, with_rest, wrote_then, part_room, counted}
+use Rattle.lists.proofs.Parts.{rest_of, with_rest, wrote_then, part_room}
 use Rattle.codes.specs.declared.Note.{Note}
 use Rattle.codes.proofs.Notes.{first_clear}
 use Rattle.printer.specs.declared.Printer.{Printer}
@@ -56,7 +56,3 @@ module _ {s t : Printer} {text : List ℕ} {paper wire : Lent} {n : Note} {i p w
       view = g.view;
       clean = g.clean;
     }
-
-    pub stretch_counted : p + r ≤ length paper.before
-    unfolding turn_stretch stretch
-    stretch_counted = counted turn_stretch.wrote.paper paper_stretch

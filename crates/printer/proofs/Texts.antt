@@ -6,7 +6,7 @@ use native.Mathlib.Omega.{arith}
 use lib.ListN.{length, drop, get_or, length-append, drop_of_length-le}
 use Rattle.lists.specs.Buffers.{Lent, lent_as, untouched, WroteBothAtStart, RoomFor}
 use Rattle.lists.proofs.Starts.{wrote_none}
-use Rattle.lists.proofs.Parts.{rest_of, with_rest, wrote_then, part_room, counted, same_long}
+use Rattle.lists.proofs.Parts.{rest_of, with_rest, wrote_then, part_room}
 use Rattle.codes.specs.Answers.{first_note}
 use Rattle.codes.specs.declared.Note.{Note}
 use Rattle.codes.specs.declared.Note.TheVariants.{Clear}
@@ -45,12 +45,6 @@ module _ {s t : Printer} {text : List ℕ} {paper wire : Lent} {n : Note} {i p w
 
   pub wire_done : RoomFor g.effect.wire wire.before
   wire_done = omega (arith, simp length-append at (rw (← g.all) at wire_room))
-
-  pub paper_within : p ≤ length paper.after
-  paper_within = omega (arith, counted g.wrote.paper paper_done, same_long g.wrote.paper paper_done)
-
-  pub wire_within : w ≤ length wire.after
-  wire_within = omega (arith, counted g.wrote.wire wire_done, same_long g.wrote.wire wire_done)
 
   module _ (lt : i < length text) where
     -- the next byte's step, and what it did with those before it
@@ -100,14 +94,6 @@ module _ {s t : Printer} {text : List ℕ} {paper wire : Lent} {n : Note} {i p w
         view = met_next.view;
         clean = λ k. met_next.clean (g.clean k);
       }
-
-      pub paper_counted : p + r.paper ≤ length paper.before
-      unfolding turn both
-      paper_counted = counted turn.wrote.paper paper_both
-
-      pub wire_counted : w + r.wire ≤ length wire.before
-      unfolding turn both
-      wire_counted = counted turn.wrote.wire wire_both
 
   -- the whole text is read
   pub ended : length text ≤ i → RefinesStep (bytes_read (view_printer s) text) s paper wire (record { note = n; paper = p; wire = w; state = t })

@@ -75,9 +75,9 @@ refusal p c = record { code = c; note = Clear; paper = 0; wire = 0; state = p }
 abbrev pub answered : Step → Answer
 answered r = record { code = Done; note = r.note; paper = r.paper; wire = r.wire; state = r.state }
 
--- a step that writes nothing
-abbrev pub NoteAlone : Note → Printer → Step → Type 0
-NoteAlone n p r = r ≡ record { note = n; paper = 0; wire = 0; state = p }
+-- a step that writes so many bytes, on the wire alone
+abbrev pub step_of : Note → (wire : ℕ) → Printer → Step
+step_of n wire p = record { note = n; paper = 0; wire = wire; state = p }
 
 -- what RCTE's control did, as a step of the code
 abbrev pub rcte_stepped : Printer → RcteStep → Step

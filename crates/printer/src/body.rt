@@ -11,6 +11,7 @@ ghost use Rattle.printer.specs.Refinement.{view_printer, body_end_read, RefinesS
 use crate::{Printer, Step, moves, network};
 use bodies::MacroCommand;
 use codes::{DS, Disposition, Note};
+use disposition::Values;
 use negotiation::End;
 use subnegotiation::Subject;
 
@@ -21,7 +22,7 @@ fn rcte_read(s: Printer, body: &[u8], paper: &mut [u8], wire: &mut [u8]) -> Step
     ensures { RefinesStep (rcte_read (view_printer s) (rcte_body body.now)) s (lent paper) (lent wire) result }
 {
     let Some(command) = bodies::rcte_body(body) else {
-        return moves::note_alone(s, Note::Unreadable);
+        return Step::notes(Note::Unreadable, s);
     };
     moves::after_rcte(s, rcte::commanded(s.rcte, command, paper, wire))
 }
@@ -31,14 +32,17 @@ fn value_read(s: Printer, d: Disposition, body: &[u8]) -> Step
     ensures { RefinesStepUnwritten (value_read (view_printer s) d (value_body d DS body.now)) s result }
 {
     let Some(value) = bodies::value_body(d, DS, body) else {
-        return moves::note_alone(s, Note::Unreadable);
+        return Step::notes(Note::Unreadable, s);
     };
-    let spoken = disposition::with_ds(s.values.of(d), value);
+    let spoken = Values {
+        ds: value,
+        ..s.values.of(d)
+    };
     let t = Printer {
         values: s.values.with(d, spoken),
         ..s
     };
-    moves::note_alone(t, Note::Clear)
+    Step::notes(Note::Clear, t)
 }
 
 // A DEFINE of x; rest is its count and string.
@@ -47,15 +51,12 @@ fn define_read(s: Printer, x: u8, rest: &[u8], wire: &mut [u8]) -> Step
     ensures { RefinesStepOnWire (define_judged (view_printer s) x rest.now) s (lent wire) result }
 {
     let defined = received_macros::define(s.table, x, rest);
-    Step {
-        note: Note::Clear,
-        paper: 0,
-        wire: received_macros::put_verdict(defined.map(|_| ()), x, wire),
-        state: Printer {
-            table: defined.unwrap_or(s.table),
-            ..s
-        },
-    }
+    let n = received_macros::put_verdict(defined.map(|_| ()), x, wire);
+    let t = Printer {
+        table: defined.unwrap_or(s.table),
+        ..s
+    };
+    Step::sends(t, n)
 }
 
 // BM's DEFINE or LITERAL, with BM in force.
@@ -65,7 +66,7 @@ fn macro_read(s: Printer, body: &[u8], paper: &mut [u8], wire: &mut [u8]) -> Ste
     ensures { RefinesStep (macro_read (view_printer s) body.now (macro_body body.now)) s (lent paper) (lent wire) result }
 {
     let Some(command) = bodies::macro_body(body) else {
-        return moves::note_alone(s, Note::Unreadable);
+        return Step::notes(Note::Unreadable, s);
     };
     match command {
         MacroCommand::Define(x) => define_read(s, x, &body[3..], wire),
@@ -86,7 +87,7 @@ fn handled(
     ensures { RefinesStep (body_handled (view_printer s) body.now subject) s (lent paper) (lent wire) result }
 {
     match subject {
-        Err(note) => moves::note_alone(s, note),
+        Err(note) => Step::notes(note, s),
         Ok(Subject::Rcte) => rcte_read(s, body, paper, wire),
         Ok(Subject::Disposes(d)) => value_read(s, d, body),
         Ok(Subject::Macro) => macro_read(s, body, paper, wire),
@@ -99,15 +100,14 @@ pub fn body_read(s: Printer, paper: &mut [u8], wire: &mut [u8]) -> Step
     requires room_for_2 { RoomFor (body_end_read (view_printer s)).wire wire.old }
     ensures { RefinesStep (body_end_read (view_printer s)) s (lent paper) (lent wire) result }
 {
-    let kept = s.reader;
-    let subject = subnegotiation::body_checked(End::Printer, s.sides, kept);
+    let subject = subnegotiation::body_checked(End::Printer, s.sides, s.reader);
     let t = Printer {
         reader: reader::idle(),
         ..s
     };
     handled(
         t,
-        &kept.body[..reader::body_len(kept.len)],
+        &s.reader.body[..reader::body_len(s.reader.len)],
         subject,
         paper,
         wire,

@@ -12,9 +12,9 @@ ghost use Rattle.printer.specs.Refinement.{WholePrinter, view_printer, RefinesAn
 
 use crate::{Answer, Printer, RunAnswer, Step, moves, network, run};
 use codes::{Code, DR, Disposition, Each, Note};
-use disposition::Handlings;
+use disposition::{Handlings, Values};
 use keys::Key;
-use negotiation::{End, Move, Turn};
+use negotiation::End;
 
 pub fn fresh() -> Printer
     ensures { result ≡ fresh_cells }
@@ -41,6 +41,7 @@ fn refused(s: Printer, code: Code) -> Answer
     }
 }
 
+// No From: its clause says besides that the state's arrays are whole.
 fn done(step: Step) -> Answer
     ensures { (result ≡ answered step) × WholePrinter step.state }
 {
@@ -132,18 +133,9 @@ pub fn ask(s: Printer, option: u8, way: u8, paper: &mut [u8], wire: &mut [u8]) -
     if codes::no_room(paper.len(), wire.len()) {
         return refused(s, Code::NoRoom);
     }
-    let side = negotiation::asked_side(End::Printer, option, way);
-    match negotiation::asking_of(s.sides, side, negotiation::asked_enable(way)) {
+    match negotiation::asked_by(End::Printer, s.sides, option, way) {
         Err(code) => refused(s, code),
-        Ok(Move { next, reply }) => {
-            let turn = Turn {
-                side,
-                next,
-                whose: negotiation::asked_whose(way),
-                reply,
-            };
-            done(moves::moved_with_reply(s, turn, option, paper, wire))
-        }
+        Ok(turn) => done(moves::moved_with_reply(s, turn, option, paper, wire)),
     }
 }
 
@@ -154,19 +146,15 @@ fn suggest_of(s: Printer, v: u8, d: Disposition, wire: &mut [u8]) -> Answer
 {
     let old = s.values.of(d);
     let on = negotiation::disposition_in_force(s.sides, d);
-    match disposition::suggest_refusal(d, on, old.dr, v) {
-        Err(code) => refused(s, code),
-        Ok(()) => Answer {
-            code: Code::Done,
-            note: Note::Clear,
-            paper: 0,
-            wire: disposition::put_suggestion(d, DR, v, wire),
-            state: Printer {
-                values: s.values.with(d, disposition::with_dr(old, v)),
-                ..s
-            },
-        },
+    if let Err(code) = disposition::suggest_refusal(d, on, old.dr, v) {
+        return refused(s, code);
     }
+    let n = disposition::put_suggestion(d, DR, v, wire);
+    let t = Printer {
+        values: s.values.with(d, Values { dr: v, ..old }),
+        ..s
+    };
+    done(Step::sends(t, n))
 }
 
 // The same of an option by its number.

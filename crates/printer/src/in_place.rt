@@ -1,5 +1,6 @@
 // A network byte that changes nothing but the option states and the reader's phase, read from the parts that it needs: the rest of the
-// state stays where it lies. A byte that is not handled has written nothing.
+// state stays where it lies. A byte that is not handled has written nothing. `network` reads the same bytes by value; this is for the
+// rows of IAC and SGA in docs/PERFORMANCE.md.
 ghost use Rattle.std.specs.Prelude.{◌≡◌};
 ghost use Rattle.lists.specs.Buffers.{lent, RoomFor};
 ghost use Rattle.received_macros.specs.Texts.{text};
@@ -154,7 +155,8 @@ fn byte_read(parts: Parts, b: u8, paper: &mut [u8], wire: &mut [u8]) -> Option<I
     item_read(parts, read.phase, read.item, paper, wire)
 }
 
-// The macros may replace the byte. Its mark is looked at before anything else: a state that no session reaches may have one at IAC.
+// The macros may replace the byte. Its mark is looked at before the byte is read as it stands: a state that no session
+// reaches may have one at IAC.
 pub fn may_replace(parts: Parts, marks: &[u16; 256], b: u8) -> bool
     ensures { result ≡ may_replace parts.sides parts.phase marks.now b }
 {
@@ -163,7 +165,7 @@ pub fn may_replace(parts: Parts, marks: &[u16; 256], b: u8) -> bool
         && !received_macros::is_unmarked(marks, b)
 }
 
-// None of a byte that asks for the whole state.
+// None of a byte that needs the whole state.
 #[tactic(auto, unfolding(crate::specs::InPlace::in_place_read))]
 pub fn read(
     parts: Parts,

@@ -2,7 +2,8 @@
 #![tactic(auto)]
 
 ghost use Rattle.std.specs.Prelude.{◌≡◌};
-ghost use Rattle.printer.specs.Refinement.{parts_of};
+ghost use Rattle.codes.specs.declared.Note.TheVariants.{Clear};
+ghost use Rattle.printer.specs.Refinement.{parts_of, step_of};
 
 use codes::{Code, Note};
 use disposition::AllValues;
@@ -58,7 +59,32 @@ pub struct Step {
     pub state: Printer,
 }
 
-// A call's answer.
+impl Step {
+    // Nothing on the paper, so many bytes on the wire, and no note.
+    fn sends(state: Printer, wire: usize) -> Step
+        ensures { result ≡ step_of Clear wire state }
+    {
+        Step {
+            note: Note::Clear,
+            paper: 0,
+            wire,
+            state,
+        }
+    }
+
+    // A note, and nothing else.
+    fn notes(note: Note, state: Printer) -> Step
+        ensures { result ≡ step_of note 0 state }
+    {
+        Step {
+            note,
+            ..Step::sends(state, 0)
+        }
+    }
+}
+
+// A call's answer: no Result, for a refusal has its state, its note and its counts too, which the contracts and the claims name
+// (`RefinesOutcome.same`, `traces/Traces.MeetsContract`).
 #[derive(Clone, Copy)]
 pub struct Answer {
     pub code: Code,
@@ -68,7 +94,8 @@ pub struct Answer {
     pub state: Printer,
 }
 
-// The answer of a run of network bytes: a call's, with how many bytes were taken.
+// The answer of a run of network bytes: a call's, with how many bytes were taken. The ends have structs of their own, as of steps:
+// `RefinesRun` and the traces name `paper` here and `host` there.
 #[derive(Clone, Copy)]
 pub struct RunAnswer {
     pub code: Code,

@@ -1,27 +1,16 @@
-// Negotiation: what is heard, and what follows as a side's state changes.
+// Negotiation: what is heard, and what follows as a side's state changes. Each end has its own: RCTE ends with keys to send at this
+// end alone, and the macros go at other states (`printer/Network.side_moved`, `bulletin/Network.side_state`).
 ghost use Rattle.lists.specs.Buffers.{lent, RoomFor};
 ghost use Rattle.negotiation.specs.Carried.{reply_bytes};
 ghost use Rattle.negotiation.specs.declared.Side.TheVariants.{Rcte, Macro, Disposes};
 ghost use Rattle.printer.specs.Network.{rcte_moved, side_moved, moved_with_reply, negotiation_read};
 ghost use Rattle.std.specs.Prelude.{◌≡◌, true, false};
-ghost use Rattle.printer.specs.Refinement.{view_printer, rcte_stepped, RefinesStep, RefinesState, NoteAlone};
+ghost use Rattle.printer.specs.Refinement.{view_printer, rcte_stepped, RefinesStep, RefinesState};
 
 use crate::{Printer, Step};
 use codes::{Disposition, Note, Verb};
 use negotiation::{End, OptionState, Side, Turn};
 use rcte::RcteStep;
-
-// A step that writes nothing.
-pub fn note_alone(s: Printer, note: Note) -> Step
-    ensures { NoteAlone note s result }
-{
-    Step {
-        note,
-        paper: 0,
-        wire: 0,
-        state: s,
-    }
-}
 
 // What RCTE's control did.
 pub fn after_rcte(s: Printer, e: RcteStep) -> Step
@@ -64,9 +53,9 @@ fn rcte_moved(s: Printer, q: OptionState, paper: &mut [u8], wire: &mut [u8]) -> 
                 rcte: rcte::started(),
                 ..t
             };
-            note_alone(anew, Note::Clear)
+            Step::notes(Note::Clear, anew)
         }
-        (true, true) | (false, false) => note_alone(t, Note::Clear),
+        _ => Step::notes(Note::Clear, t),
     }
 }
 
@@ -115,15 +104,15 @@ fn side_moved(s: Printer, side: Side, q: OptionState, paper: &mut [u8], wire: &m
 {
     match side {
         Side::Rcte => rcte_moved(s, q, paper, wire),
-        Side::Macro => note_alone(macro_moved(s, q), Note::Clear),
-        Side::Disposes(d) => note_alone(disposition_moved(s, d, q), Note::Clear),
-        Side::Uncarried => note_alone(s, Note::Clear),
+        Side::Macro => Step::notes(Note::Clear, macro_moved(s, q)),
+        Side::Disposes(d) => Step::notes(Note::Clear, disposition_moved(s, d, q)),
+        Side::Uncarried => Step::notes(Note::Clear, s),
         Side::Echo | Side::BulletinSga | Side::PrinterSga => {
             let t = Printer {
                 sides: negotiation::moved(s.sides, side, q),
                 ..s
             };
-            note_alone(t, Note::Clear)
+            Step::notes(Note::Clear, t)
         }
     }
 }

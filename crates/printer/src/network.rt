@@ -9,6 +9,7 @@ ghost use Rattle.printer.specs.Refinement.{view_printer, RefinesStep, RefinesSta
 use crate::{Printer, Step, body, in_place, moves};
 use codes::Note;
 use negotiation::{End, Sides};
+use rcte::Rcte;
 use reader::{Item, Phase};
 
 // Data that is printed and changes nothing: the state is then handed on without a copy of any part.
@@ -28,7 +29,10 @@ fn after_data(s: Printer) -> Printer
         return s;
     }
     Printer {
-        rcte: rcte::holding(s.rcte),
+        rcte: Rcte {
+            held: true,
+            ..s.rcte
+        },
         ..s
     }
 }
@@ -55,11 +59,11 @@ fn item_read(s: Printer, item: Item, paper: &mut [u8], wire: &mut [u8]) -> Step
     ensures { RefinesStep (item_read (view_printer s) item) s (lent paper) (lent wire) result }
 {
     match item {
-        Item::Nothing => moves::note_alone(s, Note::Clear),
+        Item::Nothing => Step::notes(Note::Clear, s),
         Item::Data(b) => data_read(s, b, paper),
         Item::Negotiated(v, option) => moves::negotiated(s, v, option, paper, wire),
         Item::BodyEnd => body::body_read(s, paper, wire),
-        Item::StrayCommand => moves::note_alone(s, Note::Stray),
+        Item::StrayCommand => Step::notes(Note::Stray, s),
     }
 }
 
@@ -80,39 +84,37 @@ pub fn byte_read(s: Printer, b: u8, paper: &mut [u8], wire: &mut [u8]) -> Step
     item_read(t, read.item, paper, wire)
 }
 
-// The bytes of a macro's text, in reading order; the first note is kept. A plain stretch is printed by one copy: so a turn takes one
-// byte or many, and the place is counted by hand.
+// The bytes of a macro's text, in reading order; the first note is kept. A plain stretch is printed by one copy: a turn takes
+// a byte or as many as that came to, so there is nothing that a `for` could go over.
 fn text_read(s: Printer, bytes: &[u8], paper: &mut [u8], wire: &mut [u8]) -> Step
     requires room_for { RoomFor (bytes_read (view_printer s) bytes.now).paper paper.old }
     requires room_for_2 { RoomFor (bytes_read (view_printer s) bytes.now).wire wire.old }
     ensures { RefinesStep (bytes_read (view_printer s) bytes.now) s (lent paper) (lent wire) result }
 {
-    let mut state = s;
-    let mut note = Note::Clear;
-    let mut i: usize = 0;
-    let mut p: usize = 0;
-    let mut w: usize = 0;
-    while i < bytes.len() {
-        let n = state.parts().text_stretch(&bytes[i..]);
+    let mut done = Step::notes(Note::Clear, s);
+    let mut rest = bytes;
+    while !rest.is_empty() {
+        let n = done.state.parts().text_stretch(rest);
         if n > 0 {
-            let end = i + n;
-            p += wire::put_bytes(&bytes[i..end], &mut paper[p..]);
-            i = end;
+            done.paper += wire::put_bytes(&rest[..n], &mut paper[done.paper..]);
+            rest = &rest[n..];
             continue;
         }
-        let step = byte_read(state, bytes[i], &mut paper[p..], &mut wire[w..]);
-        p += step.paper;
-        w += step.wire;
-        note = codes::first_note(note, step.note);
-        state = step.state;
-        i += 1;
+        let step = byte_read(
+            done.state,
+            rest[0],
+            &mut paper[done.paper..],
+            &mut wire[done.wire..],
+        );
+        rest = &rest[1..];
+        done = Step {
+            note: codes::first_note(done.note, step.note),
+            paper: done.paper + step.paper,
+            wire: done.wire + step.wire,
+            state: step.state,
+        };
     }
-    Step {
-        note,
-        paper: p,
-        wire: w,
-        state,
-    }
+    done
 }
 
 // A byte that has a mark; BM is in force and no command is being read. A text that is plain throughout is printed from where it lies.

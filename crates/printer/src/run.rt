@@ -45,7 +45,8 @@ impl ReadsNetwork for Printer {
     }
 }
 
-// A refusal: the state that was given, and nothing written.
+// A refusal: the state that was given, and nothing written. As the other end's, like read_bytes: what is common is
+// `reader::read_bytes`, and the answers differ in type.
 pub fn refused(s: Printer, code: Code) -> RunAnswer
     ensures { result ≡ refused_run s code }
 {
@@ -59,7 +60,7 @@ pub fn refused(s: Printer, code: Code) -> RunAnswer
     }
 }
 
-// A run whose first byte has room.
+// A run that was not refused.
 pub fn read_bytes(s: Printer, bytes: &[u8], paper: &mut [u8], wire: &mut [u8]) -> RunAnswer
     ensures { RefinesRun (begun_run (view_printer s) bytes.now) s (lent paper) (lent wire) result }
 {

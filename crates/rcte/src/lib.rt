@@ -4,7 +4,7 @@
 ghost use Rattle.std.specs.Prelude.{◌≡◌};
 ghost use Rattle.lists.specs.Buffers.{lent, RoomFor};
 ghost use Rattle.rcte.specs.Control as control;
-ghost use Rattle.rcte.specs.Refinement.{view_rcte, started_cells, order_cells, gathered_cells, numbers_in, RefinesState, RefinesStep, pressed_if_room};
+ghost use Rattle.rcte.specs.Refinement.{view_rcte, started_cells, order_cells, gathered_cells, numbers_in, RefinesStep, pressed_if_room};
 
 use bodies::{Action, RcteCommand};
 use keys::Key;
@@ -22,7 +22,8 @@ pub const WAIT_ROOM: usize = 256;
 // .. and so many bytes be gathered.
 pub const GATHER_ROOM: usize = 512;
 
-// A key that waits is kept as a number. Cells past a count are 0.
+// A key that waits is kept as a number, and a count stands beside each array: a host lends both to the library for C. Cells past
+// a count are 0.
 #[derive(Clone, Copy)]
 pub struct Rcte {
     pub held: bool,
@@ -35,7 +36,8 @@ pub struct Rcte {
     pub filled: usize,
 }
 
-// How many bytes went to the paper and to the wire, and the state after that.
+// How many bytes went to the paper and to the wire, and the state after that. The counts stand flat, as in every step and answer of an
+// end.
 #[derive(Clone, Copy)]
 pub struct RcteStep {
     pub paper: usize,
@@ -58,6 +60,7 @@ struct Orders {
     sends: u16,
 }
 
+// The gathered bytes as the state keeps them, to be lent while keys are taken up.
 #[derive(Clone, Copy)]
 struct Gathered {
     cells: [u8; GATHER_ROOM],
@@ -117,13 +120,6 @@ pub fn started() -> Rcte
         gathered: [0; GATHER_ROOM],
         filled: 0,
     }
-}
-
-// A data byte holds.
-pub fn holding(e: Rcte) -> Rcte
-    ensures { RefinesState (control.holding (view_rcte e)) e result }
-{
-    Rcte { held: true, ..e }
 }
 
 // A key under RCTE waits where keys are held, and else is taken up at once. One that finds the queue full changes

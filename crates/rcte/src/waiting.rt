@@ -1,4 +1,4 @@
-// The keys that wait: one more of them, those left behind the first, and all of them taken up or sent.
+// The keys that wait: one more of them, what is left once some were taken up, and all of them taken up or sent.
 ghost use Rattle.std.specs.Prelude.{◌≡◌, ◌-◌, ◌≤◌, ◌++◌, length, replicate};
 ghost use mathlib.Core.List.{flat_map};
 ghost use Rattle.lists.specs.Buffers.{lent, WroteBothAtStart, RoomFor};
@@ -10,7 +10,7 @@ ghost use Rattle.rcte.specs.Refinement.{waiting_in, view_rcte, queued_if_room, R
 use crate::{GATHER_ROOM, Gathered, Rcte, RcteStep, WAIT_ROOM, Written, taking};
 use keys::Key;
 
-// 256 keys already wait.
+// Keys are held, and 256 already wait.
 #[tactic(auto, unfolding(crate::specs::Control::is_full))]
 pub fn is_full(e: Rcte) -> bool
     ensures { result ≡ control.is_full (view_rcte e) }
@@ -45,11 +45,12 @@ fn cells_of(numbers: &[u16]) -> [u16; WAIT_ROOM]
 }
 
 // The state once so many of the waiting keys were taken up.
-pub fn left(e: Rcte, g: Gathered, at: usize, held: bool) -> Rcte
-    ensures { Left (left_at (view_rcte e) (bytes_in g) at held) g e result }
+pub fn left(e: Rcte, g: Gathered, taken: usize, held: bool) -> Rcte
+    ensures { Left (left_at (view_rcte e) (bytes_in g) taken held) g e result }
 {
     let numbers = e.waiting_numbers();
-    let rest = &numbers[at.min(numbers.len())..];
+    let rest = &numbers[taken.min(numbers.len())..];
+    // Arrays go into a literal by variables: the borrow checker refuses a call or another field there.
     let Gathered {
         cells: gathered,
         filled,
@@ -67,7 +68,8 @@ pub fn left(e: Rcte, g: Gathered, at: usize, held: bool) -> Rcte
 
 // Takes up waiting keys one after the other, the first break being the last; if none breaks, the hold is over. The loop gives how
 // many were taken up where one broke. Most keys are plain characters, which costs one look at their class here: by take_up each
-// would cost twice as much.
+// would cost half as much again (39,271 and 25,571 instructions a command). A loop left by break with where it stopped, as document
+// 01 has it (docs/RULES.md 12.10): a `for` gives no value.
 pub fn release(e: Rcte, paper: &mut [u8], wire: &mut [u8]) -> RcteStep
     requires room_for { RoomFor (releasing (view_rcte e)).paper paper.old }
     requires room_for_2 { RoomFor (releasing (view_rcte e)).wire wire.old }

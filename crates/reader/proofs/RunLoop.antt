@@ -148,9 +148,6 @@ module _ {S D A C : Type 0} {e : OneByte S D A} {l : Lawful e} {view : C → S} 
       go true k = is_over (k ∙ ap (λ (x : RunEffect D). further e r.taken g.effect x) h ∙ further_stays l r.taken g.effect)
       go false k = is_over k
 
-  pub over_noted : is_clear r.note ≡ false → Finished l view Kept (ran_from e (view s) bytes (length first.before) (length wire.before)) s t first wire r
-  over_noted n = is_over (rw n at g.all)
-
   pub over_empty : length rest ≡ 0 → Finished l view Kept (ran_from e (view s) bytes (length first.before) (length wire.before)) s t first wire r
   over_empty none =
       let empty : rest ≡ [] = drop_of_length-le rest {i = 0} (omega (arith, none)) in

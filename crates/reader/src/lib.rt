@@ -29,7 +29,8 @@ pub enum Phase {
     InBodyAfterIac,
 }
 
-// What a byte completes. At BodyEnd the reader still keeps the body.
+// What a byte completes. At BodyEnd the reader still keeps the body. Nothing is a case and no Option of an item: each match has one arm
+// for it either way.
 #[derive(Clone, Copy)]
 pub enum Item {
     Nothing,
@@ -39,7 +40,7 @@ pub enum Item {
     StrayCommand,
 }
 
-// The body read last stands in the first len cells: a count beside an array, as a host lends both to the library for C.
+// The body that is read, or was read last, stands in the first len cells: a count beside an array, as a host lends both to the library for C.
 #[derive(Clone, Copy)]
 pub struct Reader {
     pub phase: Phase,
@@ -126,7 +127,7 @@ pub fn is_data(phase: Phase, b: u8) -> bool
     b != IAC && is_between(phase)
 }
 
-// The text that comes before a command: bytes up to the first IAC.
+// How far the text goes that comes before a command: up to the first IAC.
 pub fn text_front(bytes: &[u8]) -> usize
     ensures { result ≡ front not_iac bytes.now }
 {
@@ -194,4 +195,13 @@ pub fn body_len(n: usize) -> usize
     ensures { result ≡ min n 260 }
 {
     n.min(BODY_ROOM)
+}
+
+impl Reader {
+    // The bytes of the body that are kept.
+    pub fn kept_body(&self) -> &[u8]
+        ensures { result.now ≡ (view_reader self.now).body }
+    {
+        &self.body[..body_len(self.len)]
+    }
 }

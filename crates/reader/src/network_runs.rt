@@ -106,7 +106,7 @@ pub fn read_bytes<E: ReadsNetwork>(
         first: 0,
         wire: 0,
     };
-    // by as much as the end took, which no iterator knows before it
+    // No `for`: a step goes as far as the end took, which no iterator knows before.
     let mut rest = bytes;
     while !rest.is_empty() && ran.note == Note::Clear {
         if codes::no_room(first.len() - ran.first, wire.len() - ran.wire) {

@@ -38,7 +38,8 @@ pub enum Status {
     Refused,
 }
 
-// The number of each byte's status, and the data of pending and accepted bytes, packed as in `macros`.
+// The number of each byte's status, and the data of pending and accepted bytes, packed as in `received_macros::Texts`.
+// Numbers, as a host lends the cells to the library for C.
 #[derive(Clone, Copy)]
 pub struct SendingTable {
     pub statuses: [u8; BYTES],

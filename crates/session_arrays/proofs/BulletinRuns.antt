@@ -1,5 +1,5 @@
 -- A run of network bytes on the bulletin end's arrays: how its code meets the rule.
-use Rattle.std.specs.Prelude.{Some, None}
+use Rattle.std.specs.Prelude.{Option, Some, None, is_some}
 use mathlib.Core.Path.{◌≡◌, refl, sym, ap, subst, ◌∙◌}
 use mathlib.Core.Bool.{true, false}
 use mathlib.Core.List.{List, [], ◌∷◌}
@@ -22,7 +22,7 @@ use Rattle.bulletin.specs.State.{BulletinState, Effect}
 use Rattle.bulletin.specs.Network.{network_read}
 use Rattle.bulletin.specs.Calls.{network_call}
 use Rattle.bulletin.specs.NetworkRun.{giving, bulletin_byte, network_run}
-use Rattle.bulletin.specs.InPlace.{in_place, HasRoom, RefinesInPlace}
+use Rattle.bulletin.specs.InPlace.{InPlaceEffect, in_place, HasRoom, RefinesInPlace}
 use Rattle.bulletin.specs.Refinement.{view_bulletin, CleanBulletin, RefinesAnswer}
 use Rattle.bulletin.specs.declared.Bulletin.{Bulletin}
 use Rattle.bulletin.specs.declared.Answer.{Answer}
@@ -80,35 +80,36 @@ module _ (p : Parts) where
 pub byte_in_place : (b : ℕ) (before : BulletinArrays) {small : List ℕ} {host wire : Lent} (r : InPlace)
     → RefinesInPlace (in_place_in before.small b) host wire (Some r)
     → small ≡ small_in_place before.small r.parts
-    → RefinesByteOnBulletinArrays (network_read (view_arrays before) b)
+    → (is_some (in_place_in before.small b) ≡ true) × RefinesByteOnBulletinArrays (network_read (view_arrays before) b)
     (lent_arrays before (arrays_of_bulletin small before.counts before.body before.statuses before.marks before.cells before.issue before.kept))
     host wire (record { note = Clear; first = r.host; wire = r.wire })
 byte_in_place b before {small} {host} {wire} r met put =
     let s = decoded_bulletin before in
     let found = refined_some (in_place_in before.small b) host wire r met in
     let p = found.0.parts in
-    let at : small ≡ small_in_place before.small p = put ∙ ap (small_in_place before.small) found.1.1.parts in
-    rw (read_in_place s b found.0 found.1.0, at)
-    (stands_for (in_place s p) (in_place_found p before) (λ k. ap (stored_in_place p) (sym k.encoded))
-    (λ k. record { reader = k.reader; table = k.table }) refl found.1.1.wrote refl)
+    let at : small ≡ small_in_place before.small p = put ∙ ap (small_in_place before.small) found.1.1.parts in (
+      ap (λ (o : Option InPlaceEffect). is_some o) found.1.0,
+      rw (read_in_place s b found.0 found.1.0, at)
+          (stands_for (in_place s p) (in_place_found p before) (λ k. ap (stored_in_place p) (sym k.encoded))
+          (λ k. record { reader = k.reader; table = k.table }) refl found.1.1.wrote refl),
+    )
 
--- one that was not handled: both buffers are as they were
+none_there : (o : Option InPlaceEffect) (host wire : Lent) → RefinesInPlace o host wire None → o ≡ None
+none_there None host wire met = refl
+none_there (Some e) host wire met = absurd met
+
+-- one that was not handled: the rule has none, and both buffers are as they were
 pub byte_stays : (before : BulletinArrays) (b : ℕ) (host wire : Lent) → RefinesInPlace (in_place_in before.small b) host wire None
-    → (host.after ≡ host.before) × (wire.after ≡ wire.before)
+    → (in_place_in before.small b ≡ None) × (host.after ≡ host.before) × (wire.after ≡ wire.before)
 byte_stays before b host wire met =
     let wrote = refined_none (in_place_in before.small b) host wire met in
-    (wrote.paper.cells, wrote.wire.cells)
+    (none_there (in_place_in before.small b) host wire met, wrote.paper.cells, wrote.wire.cells)
 
 -- the room that code 1 asks for is enough for what a byte writes in place
 pub room_in_arrays : (small : List ℕ) (b : ℕ) (host wire : List ℕ) → no_room (length host) (length wire) ≡ false → HasRoom (in_place_in small b) host wire
 room_in_arrays small b host wire room = room_in_place (decoded_bulletin (arrays_of_bulletin small [] [] [] [] [] [] [])) b host wire room
 
--- a step on arrays, and a run's outcome, as the laws at either end have them
-pub stepped : {d : Effect} {before after : LentBulletinArrays} {host wire : Lent} {r : ByteOutcome}
-    → RefinesByteOnBulletinArrays d (lent_between before after) host wire r → SameArrays before after
-    → Stepped lawful view_lent Keeps d before after r.note host wire r.first r.wire
-stepped m same = record { note = m.note; on_first = m.wrote.paper; on_wire = m.wrote.wire; sees = m.view; kept = record { sound = m.sound; same_arrays = same } }
-
+-- a run's outcome, as the laws at either end have it
 pub refines_run : {x : RunEffect Effect} {before after : LentBulletinArrays} {host wire : Lent} {r : Ran}
     → Finished lawful view_lent Keeps x before after host wire r
     → RefinesRunOutcomeOnBulletinArrays (record { code = Done; ran = x }) (lent_between before after) host wire (run_outcome Done r.note r.taken r.first r.wire)

@@ -20,6 +20,7 @@ use Rattle.printer.specs.State.{PrinterState, Effect, printing}
 use Rattle.printer.specs.Network.{network_read}
 use Rattle.printer.specs.Calls.{network_call}
 use Rattle.printer.specs.NetworkRun.{printer_byte, network_run}
+use Rattle.printer.specs.InPlace.{InPlaceEffect}
 use Rattle.printer.specs.Refinement.{view_printer, CleanPrinter, RefinesAnswer}
 use Rattle.printer.specs.declared.Printer.{Printer}
 use Rattle.printer.specs.declared.Answer.{Answer}
@@ -61,11 +62,11 @@ pub stepped : {d : Effect} {before after : LentPrinterArrays} {paper wire : Lent
 stepped m same = record { note = m.note; on_first = m.wrote.paper; on_wire = m.wrote.wire; sees = m.view; kept = record { sound = m.sound; same_arrays = same } }
 
 -- .. where it was not read in place: everything is still as it was
-pub stepped_then : (b : ℕ) (before : LentPrinterArrays) {at : PrinterArrays} {after : LentPrinterArrays} {paper wire paper_after wire_after : List ℕ} {paper_at wire_at : List ℕ} {r : ByteOutcome}
-    → (at ≡ arrays_in before) × (paper_at ≡ paper) × (wire_at ≡ wire) → SameArrays before after
+pub stepped_then : (b : ℕ) (before : LentPrinterArrays) (e : InPlaceEffect) {at : PrinterArrays} {after : LentPrinterArrays} {paper wire paper_after wire_after : List ℕ} {paper_at wire_at : List ℕ} {r : ByteOutcome}
+    → (e.handled ≡ false) × (at ≡ arrays_in before) × (paper_at ≡ paper) × (wire_at ≡ wire) → SameArrays before after
     → RefinesByteOnPrinterArrays (network_read (view_arrays at) b) (lent_arrays at (arrays_in after)) (lent_as paper_at paper_after) (lent_as wire_at wire_after) r
     → Stepped lawful view_lent Keeps (network_read (view_lent before) b) before after r.note (lent_as paper paper_after) (lent_as wire wire_after) r.first r.wire
-stepped_then b before still same m = stepped (rw (still.0, still.1, still.2) at m) same
+stepped_then b before e still same m = stepped (rw (still.1, still.2, still.3) at m) same
 
 pub refines_run : {x : RunEffect Effect} {before after : LentPrinterArrays} {paper wire : Lent} {r : Ran}
     → Finished lawful view_lent Keeps x before after paper wire r

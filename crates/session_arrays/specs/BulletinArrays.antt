@@ -148,7 +148,7 @@ arrays_in a = arrays_of_bulletin a.small.now a.counts.now a.body.now a.statuses.
 abbrev pub lent_between : LentBulletinArrays → LentBulletinArrays → LentBulletin
 lent_between before after = record { before = arrays_in before; after = arrays_in after }
 
--- the struct still lends what it lent
+-- the struct still lends what it lent; each method says so, for a caller behind `&mut` could be handed other references
 pub record SameArrays (before after : LentBulletinArrays) : Type 0 where
   pub small : after.small.ghost_name ≡ before.small.ghost_name
   pub counts : after.counts.ghost_name ≡ before.counts.ghost_name

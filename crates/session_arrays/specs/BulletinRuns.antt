@@ -1,5 +1,5 @@
 -- A run of network bytes at the bulletin end, on arrays that a host lends.
-use Rattle.std.specs.Prelude.{◌≡◌, Bool, List, ℕ, length, get_or, Option, Some, None}
+use Rattle.std.specs.Prelude.{◌≡◌, Bool, true, List, ℕ, length, get_or, Option, Some, None, is_some}
 use Rattle.lists.specs.Buffers.{Lent, WroteBothAtStart}
 use Rattle.codes.specs.Answers.{code_number, note_number}
 use Rattle.codes.specs.declared.Code.TheVariants.{Done}
@@ -55,10 +55,10 @@ parts_in small = record { sides = sides_in small; phase = phase_of (get_or small
 abbrev pub in_place_in : (small : List ℕ) → ℕ → Option InPlaceEffect
 in_place_in small b = in_place_read (parts_in small) b
 
--- a byte read in place by the code, as at the printer end
-abbrev pub ReadsInPlace : Effect → LentBulletin → (host wire : Lent) → Option ByteOutcome → Type 0
-ReadsInPlace d arrays host wire (Some r) = RefinesByteOnBulletinArrays d arrays host wire r
-ReadsInPlace d arrays host wire None = (arrays.after ≡ arrays.before) × (host.after ≡ host.before) × (wire.after ≡ wire.before)
+-- a byte read in place by the code, just where the rule has such a one, as at the printer end
+abbrev pub ReadsInPlace : Option InPlaceEffect → Effect → LentBulletin → (host wire : Lent) → Option ByteOutcome → Type 0
+ReadsInPlace e d arrays host wire (Some r) = (is_some e ≡ true) × RefinesByteOnBulletinArrays d arrays host wire r
+ReadsInPlace e d arrays host wire None = (e ≡ None) × (arrays.after ≡ arrays.before) × (host.after ≡ host.before) × (wire.after ≡ wire.before)
 
 -- the struct of arrays as it reads runs: the state that it stands for, and what bytes keep of it besides
 abbrev pub view_lent : LentBulletinArrays → BulletinState

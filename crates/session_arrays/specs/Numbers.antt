@@ -1,10 +1,12 @@
 -- The parts of a state as numbers, for a record of arrays. Every number decodes.
-use Rattle.std.specs.Prelude.{Bool, true, false, not, cond, List, [], ◌∷◌, ◌++◌, ℕ, ◌+◌, eqb, get_or}
+use Rattle.std.specs.Prelude.{Bool, true, false, not, List, [], ◌∷◌, ◌++◌, ℕ, ◌+◌, eqb, get_or, unwrap_or}
+use Rattle.std.specs.Result.{result_ok}
 use Rattle.codes.specs.Answers.{code_number, note_number}
 use Rattle.codes.specs.declared.Code.{Code}
 use Rattle.codes.specs.declared.Note.{Note}
 use Rattle.keys.specs.declared.Key.{Key}
-use Rattle.keys.specs.declared.Key.TheVariants.{Char, Line, Command}
+use Rattle.keys.specs.declared.Key.TheVariants.{Command}
+use Rattle.keys.specs.Keys as K
 use Rattle.negotiation.specs.declared.Sides.{Sides}
 use Rattle.negotiation.specs.Numbers.{option_state_number, option_state_of}
 use Rattle.reader.specs.declared.Phase.{Phase}
@@ -97,9 +99,6 @@ output_number Waiting = 1
 abbrev pub run_outcome : Code → Note → (taken first wire : ℕ) → RunOutcome
 run_outcome c n taken first wire = record { code = code_number c; note = note_number n; taken = taken; first = first; wire = wire }
 
--- a key by its kind and its byte, as on a tape; a pair that stands for no key is a Command that every end refuses
+-- a key by its kind and its byte (keys/Keys.key_of_pair); a pair that stands for no key is a Command that every end refuses
 unfoldable pub key_of_pair : ℕ → ℕ → Key
-key_of_pair kind b =
-    cond (eqb kind 0) (Char b)
-    (cond (eqb kind 2) (Command b)
-    (cond (eqb kind 1) (cond (eqb b 0) Line (Command 0)) (Command 0)))
+key_of_pair kind b = unwrap_or (result_ok (K.key_of_pair kind b)) (Command 0)

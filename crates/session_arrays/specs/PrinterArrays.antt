@@ -136,7 +136,7 @@ arrays_in a = arrays_of_printer a.small.now a.classes.now a.counts.now a.body.no
 abbrev pub lent_between : LentPrinterArrays → LentPrinterArrays → LentPrinter
 lent_between before after = record { before = arrays_in before; after = arrays_in after }
 
--- the struct still lends what it lent
+-- the struct still lends what it lent; each method says so, for a caller behind `&mut` could be handed other references
 pub record SameArrays (before after : LentPrinterArrays) : Type 0 where
   pub small : after.small.ghost_name ≡ before.small.ghost_name
   pub classes : after.classes.ghost_name ≡ before.classes.ghost_name

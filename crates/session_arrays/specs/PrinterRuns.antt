@@ -1,5 +1,5 @@
 -- A run of network bytes at the printer end, on arrays that a host lends.
-use Rattle.std.specs.Prelude.{◌≡◌, Bool, List, ℕ, length, get_or, Option, Some, None}
+use Rattle.std.specs.Prelude.{◌≡◌, Bool, true, false, List, ℕ, length, get_or, Option, Some, None}
 use Rattle.lists.specs.Buffers.{Lent, WroteBothAtStart}
 use Rattle.codes.specs.Answers.{code_number, note_number}
 use Rattle.codes.specs.declared.Code.TheVariants.{Done}
@@ -58,10 +58,13 @@ is_plain_in small marks b = is_plain_byte (sides_in small) (phase_of (get_or sma
 abbrev pub in_place_in : (small marks cells : List ℕ) → ℕ → InPlaceEffect
 in_place_in small marks cells b = in_place_read (sides_in small) (phase_of (get_or small 9 0)) (flag_of (get_or small 11 0)) (table_in marks cells) b
 
--- .. by the code: done is read, and otherwise the arrays and the buffers are as they were
-abbrev pub ReadsInPlace : Effect → LentPrinter → (paper wire : Lent) → Option ByteOutcome → Type 0
-ReadsInPlace d arrays paper wire (Some r) = RefinesByteOnPrinterArrays d arrays paper wire r
-ReadsInPlace d arrays paper wire None = (arrays.after ≡ arrays.before) × (paper.after ≡ paper.before) × (wire.after ≡ wire.before)
+abbrev pub in_place_of : PrinterArrays → ℕ → InPlaceEffect
+in_place_of a b = in_place_in a.small a.marks a.cells b
+
+-- .. by the code, just where the rule handles it: it is read, and otherwise the arrays and the buffers are as they were
+abbrev pub ReadsInPlace : InPlaceEffect → Effect → LentPrinter → (paper wire : Lent) → Option ByteOutcome → Type 0
+ReadsInPlace e d arrays paper wire (Some r) = (e.handled ≡ true) × RefinesByteOnPrinterArrays d arrays paper wire r
+ReadsInPlace e d arrays paper wire None = (e.handled ≡ false) × (arrays.after ≡ arrays.before) × (paper.after ≡ paper.before) × (wire.after ≡ wire.before)
 
 -- the struct of arrays as it reads runs: the state that it stands for, and what bytes keep of it besides
 abbrev pub view_lent : LentPrinterArrays → PrinterState

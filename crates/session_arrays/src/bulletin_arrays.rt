@@ -25,6 +25,7 @@ use received_macros::{ROOM, Texts};
 use sent_macros::SendingTable;
 
 // The arrays, lent one by one. What stands where is told in `include/prambow.h`.
+// A struct for each end: number, sizes and meaning of the arrays differ.
 #[derive(Drop)]
 pub struct LentBulletinArrays<'a> {
     pub small: &'a mut [u8; 23],
@@ -41,12 +42,12 @@ impl LentBulletinArrays<'_> {
     pub fn decoded(&self) -> Bulletin
         ensures { result ≡ decoded_bulletin (arrays_in self.now) }
     {
-        let small = *self.small;
+        // Copied first: the check does not read an element of an array through `&self`.
         let counts = *self.counts;
         let issue = *self.issue;
         Bulletin {
-            sides: numbers::sides_in(&small),
-            reader: numbers::reader_in(&small, counts[0], self.body),
+            sides: numbers::sides_in(self.small),
+            reader: numbers::reader_in(self.small, counts[0], self.body),
             table: SendingTable {
                 statuses: *self.statuses,
                 texts: Texts {
@@ -54,8 +55,8 @@ impl LentBulletinArrays<'_> {
                     cells: *self.cells,
                 },
             },
-            values: numbers::values_in(&small, 15),
-            waits: waits_in(&small),
+            values: numbers::values_in(self.small, 15),
+            waits: waits_in(self.small),
             issues: Issues {
                 present: issue[0],
                 kept: *self.kept,
@@ -78,7 +79,7 @@ impl LentBulletinArrays<'_> {
     }
 
     // A call's answer in numbers; its state is stored if it is done, so that a refusal changes nothing.
-    pub fn kept(&mut self, a: Answer) -> Outcome
+    pub fn answer(&mut self, a: Answer) -> Outcome
         ensures keeps { KeepsBulletin a (lent_between self.old self.new) result }
         ensures same_arrays { SameArrays self.old self.new }
     {

@@ -11,14 +11,24 @@ ghost use Rattle.bulletin.specs.Network.{network_read};
 ghost use Rattle.bulletin.specs.Refinement.{view_bulletin};
 ghost use Rattle.bulletin.specs.RefinementOfRuns.{begun_run};
 ghost use Rattle.session_arrays.specs.BulletinArrays.{decoded_bulletin, arrays_in, lent_between, SameArrays};
-ghost use Rattle.session_arrays.specs.BulletinRuns.{view_lent, Keeps, is_plain_in, ReadsInPlace, RefinesByteOnBulletinArrays, RefinesRunOnBulletinArrays};
+ghost use Rattle.session_arrays.specs.BulletinRuns.{view_lent, Keeps, parts_in, is_plain_in, in_place_in, ReadsInPlace, RefinesByteOnBulletinArrays, RefinesRunOnBulletinArrays};
 
 use crate::bulletin_arrays::LentBulletinArrays;
 use crate::{RunOutcome, bulletin_arrays, numbers};
 use bulletin::in_place::Parts;
 use bulletin::{calls, in_place, stretches};
-use codes::{Code, Note};
+use codes::Note;
 use reader::{ByteOutcome, ReadsNetwork};
+
+fn parts_in(small: &[u8; 23]) -> Parts
+    ensures { result ≡ parts_in small.now }
+{
+    Parts {
+        sides: numbers::sides_in(small),
+        phase: small[9].into(),
+        waits: bulletin_arrays::waits_in(small),
+    }
+}
 
 // A byte by itself is plain.
 pub fn is_plain(small: &[u8; 23], b: u8) -> bool
@@ -47,8 +57,8 @@ impl ReadsNetwork for LentBulletinArrays<'_> {
     ghost onward = { λ a b c f g. Prim.search rules };
 
     fn plain_front(&self, bytes: &[u8]) -> usize {
-        let small = *self.small;
-        stretches::data_stretch(small[9].into(), bulletin_arrays::waits_in(&small), bytes)
+        let parts = parts_in(self.small);
+        stretches::data_stretch(parts.phase, parts.waits, bytes)
     }
 
     fn read(&mut self, b: u8, host: &mut [u8], wire: &mut [u8]) -> ByteOutcome {
@@ -63,16 +73,10 @@ impl LentBulletinArrays<'_> {
     // A byte from the small parts alone, if it changes nothing but the option states, the phase and the waits.
     fn read_in_place(&mut self, b: u8, host: &mut [u8], wire: &mut [u8]) -> Option<ByteOutcome>
         requires { no_room (length host.old) (length wire.old) ≡ false }
-        ensures reads { ReadsInPlace (network_read (view_bulletin (decoded_bulletin (arrays_in self.old))) b) (lent_between self.old self.new) (lent host) (lent wire) result }
+        ensures reads { ReadsInPlace (in_place_in (arrays_in self.old).small b) (network_read (view_bulletin (decoded_bulletin (arrays_in self.old))) b) (lent_between self.old self.new) (lent host) (lent wire) result }
         ensures same_arrays { SameArrays self.old self.new }
     {
-        let small = *self.small;
-        let parts = Parts {
-            sides: numbers::sides_in(&small),
-            phase: small[9].into(),
-            waits: bulletin_arrays::waits_in(&small),
-        };
-        let read = in_place::read(parts, b, host, wire)?;
+        let read = in_place::read(parts_in(self.small), b, host, wire)?;
         bulletin_arrays::put_in_place(read.parts, self.small);
         Some(ByteOutcome {
             note: Note::Clear,
@@ -96,12 +100,11 @@ impl LentBulletinArrays<'_> {
         }
     }
 
-    // A run whose first byte has room.
+    // A run that was not refused.
     pub fn read_bytes(&mut self, bytes: &[u8], host: &mut [u8], wire: &mut [u8]) -> RunOutcome
         ensures reads { RefinesRunOnBulletinArrays (begun_run (view_bulletin (decoded_bulletin (arrays_in self.old))) bytes.now) (lent_between self.old self.new) (lent host) (lent wire) result }
         ensures same_arrays { SameArrays self.old self.new }
     {
-        let ran = reader::read_bytes(self, bytes, host, wire);
-        numbers::run_outcome(Code::Done, ran.note, ran.taken, ran.first, ran.wire)
+        reader::read_bytes(self, bytes, host, wire).into()
     }
 }

@@ -1,5 +1,6 @@
 // The parts of a state as numbers and back, as they stand at either end. Every number decodes.
 ghost use Rattle.std.specs.Prelude.{◌≡◌, ◌+◌, ◌≤◌, get_or};
+ghost use Rattle.codes.specs.declared.Code.TheVariants.{Done};
 ghost use Rattle.disposition.specs.Handled.{report_of, reports_of};
 ghost use Rattle.session_arrays.specs.Numbers.{sides_in, sides_and_phase, values_at, values_in, value_numbers, reader_from, report_in, reports_in, run_outcome, key_of_pair};
 
@@ -8,9 +9,10 @@ use codes::{Code, Each, Note};
 use disposition::{AllValues, Handling, Handlings, Values};
 use keys::Key;
 use negotiation::Sides;
-use reader::{BODY_ROOM, Phase, Reader};
+use reader::{BODY_ROOM, Phase, Ran, Reader};
 
-// The states of the nine sides, with which the small parts begin.
+// The states of the nine sides, with which the small parts begin. Here and below the four entries of an `Each` are written out: in
+// a generic function the check reads nothing off a closure's body.
 pub fn sides_in<const N: usize>(small: &[u8; N]) -> Sides
     requires { 9 ≤ N }
     ensures { result ≡ sides_in small.now }
@@ -34,17 +36,16 @@ pub fn sides_in<const N: usize>(small: &[u8; N]) -> Sides
 pub fn sides_and_phase(sides: Sides, phase: Phase) -> [u8; 10]
     ensures { result ≡ sides_and_phase sides phase }
 {
-    let disposes = sides.dispositions;
     [
         sides.echo.into(),
         sides.sga.into(),
         sides.rcte.into(),
         sides.bm.into(),
         sides.printersga.into(),
-        disposes.naocrd.into(),
-        disposes.naolfd.into(),
-        disposes.naoffd.into(),
-        disposes.naohtd.into(),
+        sides.dispositions.naocrd.into(),
+        sides.dispositions.naolfd.into(),
+        sides.dispositions.naoffd.into(),
+        sides.dispositions.naohtd.into(),
         phase.into(),
     ]
 }
@@ -124,6 +125,14 @@ impl From<Handlings> for Reported {
     }
 }
 
+impl From<Ran> for RunOutcome {
+    ghost from_gives = { λ r o. o ≡ run_outcome Done r.note r.taken r.first r.wire };
+
+    fn from(r: Ran) -> RunOutcome {
+        run_outcome(Code::Done, r.note, r.taken, r.first, r.wire)
+    }
+}
+
 pub fn run_outcome(code: Code, note: Note, taken: usize, first: usize, wire: usize) -> RunOutcome
     ensures { result ≡ run_outcome code note taken first wire }
 {
@@ -141,10 +150,5 @@ pub fn run_outcome(code: Code, note: Note, taken: usize, first: usize, wire: usi
 pub fn key_of_pair(kind: u8, b: u8) -> Key
     ensures { result ≡ key_of_pair kind b }
 {
-    match (kind, b) {
-        (0, _) => Key::Char(b),
-        (1, 0) => Key::Line,
-        (2, _) => Key::Command(b),
-        _ => Key::Command(0),
-    }
+    Key::try_from((kind, b)).unwrap_or(Key::Command(0))
 }

@@ -23,6 +23,7 @@ use reader::{BODY_ROOM, Phase};
 use received_macros::{ROOM, Texts};
 
 // The arrays, lent one by one. What stands where is told in `include/prambow.h`.
+// A struct for each end: number, sizes and meaning of the arrays differ.
 #[derive(Drop)]
 pub struct LentPrinterArrays<'a> {
     pub small: &'a mut [u8; 22],
@@ -39,6 +40,7 @@ impl LentPrinterArrays<'_> {
     fn rcte(&self) -> Rcte
         ensures { let a = arrays_in self.now in result ≡ rcte_in a.small a.classes a.counts a.waiting a.gathered }
     {
+        // Copied first, here and in `decoded`: the check does not read an element of an array through `&self`.
         let small = *self.small;
         let classes = *self.classes;
         let counts = *self.counts;
@@ -60,17 +62,16 @@ impl LentPrinterArrays<'_> {
     pub fn decoded(&self) -> Printer
         ensures { result ≡ decoded_printer (arrays_in self.now) }
     {
-        let small = *self.small;
         let counts = *self.counts;
         Printer {
-            sides: numbers::sides_in(&small),
-            reader: numbers::reader_in(&small, counts[0], self.body),
+            sides: numbers::sides_in(self.small),
+            reader: numbers::reader_in(self.small, counts[0], self.body),
             table: Texts {
                 marks: *self.marks,
                 cells: *self.cells,
             },
             rcte: self.rcte(),
-            values: numbers::values_in(&small, 14),
+            values: numbers::values_in(self.small, 14),
         }
     }
 
@@ -89,7 +90,7 @@ impl LentPrinterArrays<'_> {
     }
 
     // A call's answer in numbers; its state is stored if it is done, so that a refusal changes nothing.
-    pub fn kept(&mut self, a: Answer) -> Outcome
+    pub fn answer(&mut self, a: Answer) -> Outcome
         ensures keeps { KeepsPrinter a (lent_between self.old self.new) result }
         ensures same_arrays { SameArrays self.old self.new }
     {

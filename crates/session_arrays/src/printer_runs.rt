@@ -11,11 +11,11 @@ ghost use Rattle.printer.specs.Network.{network_read};
 ghost use Rattle.printer.specs.Refinement.{view_printer};
 ghost use Rattle.printer.specs.RefinementOfRuns.{begun_run};
 ghost use Rattle.session_arrays.specs.PrinterArrays.{decoded_printer, arrays_in, lent_between, SameArrays};
-ghost use Rattle.session_arrays.specs.PrinterRuns.{view_lent, Keeps, RefinesByteOnPrinterArrays, RefinesRunOnPrinterArrays, parts_in, is_plain_in, ReadsInPlace};
+ghost use Rattle.session_arrays.specs.PrinterRuns.{view_lent, Keeps, RefinesByteOnPrinterArrays, RefinesRunOnPrinterArrays, parts_in, is_plain_in, in_place_of, ReadsInPlace};
 
 use crate::printer_arrays::LentPrinterArrays;
 use crate::{RunOutcome, numbers, printer_arrays};
-use codes::{Code, Note};
+use codes::Note;
 use printer::{Parts, calls, in_place};
 use reader::{ByteOutcome, ReadsNetwork};
 
@@ -56,8 +56,7 @@ impl ReadsNetwork for LentPrinterArrays<'_> {
     ghost onward = { λ a b c f g. Prim.search rules };
 
     fn plain_front(&self, bytes: &[u8]) -> usize {
-        let small = *self.small;
-        parts_in(&small).data_stretch(self.marks, bytes)
+        parts_in(self.small).data_stretch(self.marks, bytes)
     }
 
     fn read(&mut self, b: u8, paper: &mut [u8], wire: &mut [u8]) -> ByteOutcome {
@@ -72,11 +71,10 @@ impl LentPrinterArrays<'_> {
     // A byte from the small parts and the macros alone, if it changes nothing but the option states and the phase.
     fn read_in_place(&mut self, b: u8, paper: &mut [u8], wire: &mut [u8]) -> Option<ByteOutcome>
         requires { no_room (length paper.old) (length wire.old) ≡ false }
-        ensures reads { ReadsInPlace (network_read (view_printer (decoded_printer (arrays_in self.old))) b) (lent_between self.old self.new) (lent paper) (lent wire) result }
+        ensures reads { ReadsInPlace (in_place_of (arrays_in self.old) b) (network_read (view_printer (decoded_printer (arrays_in self.old))) b) (lent_between self.old self.new) (lent paper) (lent wire) result }
         ensures same_arrays { SameArrays self.old self.new }
     {
-        let small = *self.small;
-        let read = in_place::read(parts_in(&small), self.marks, self.cells, b, paper, wire)?;
+        let read = in_place::read(parts_in(self.small), self.marks, self.cells, b, paper, wire)?;
         printer_arrays::put_in_place(read.parts.sides, read.parts.phase, self.small);
         Some(ByteOutcome {
             note: Note::Clear,
@@ -100,12 +98,11 @@ impl LentPrinterArrays<'_> {
         }
     }
 
-    // A run whose first byte has room.
+    // A run that was not refused.
     pub fn read_bytes(&mut self, bytes: &[u8], paper: &mut [u8], wire: &mut [u8]) -> RunOutcome
         ensures reads { RefinesRunOnPrinterArrays (begun_run (view_printer (decoded_printer (arrays_in self.old))) bytes.now) (lent_between self.old self.new) (lent paper) (lent wire) result }
         ensures same_arrays { SameArrays self.old self.new }
     {
-        let ran = reader::read_bytes(self, bytes, paper, wire);
-        numbers::run_outcome(Code::Done, ran.note, ran.taken, ran.first, ran.wire)
+        reader::read_bytes(self, bytes, paper, wire).into()
     }
 }

@@ -1,5 +1,5 @@
 // Both ends' calls on a state that the host keeps and lends: each hands the state to the call by value and stores the one
-// that it returns. The modules `recorded_..` make such a record, lend it to these calls and answer by value.
+// that it returns. The modules `recorded_..` lend the state that they are given to these calls, and answer by value.
 #![tactic(auto)]
 
 ghost use Rattle.std.specs.Prelude.{◌≡◌};
@@ -14,7 +14,8 @@ pub mod printer_end;
 pub mod recorded_bulletin;
 pub mod recorded_printer;
 
-// What a call of the printer end returns when the state stands in the lent record: its answer without the state.
+// What a call of the printer end returns when the state stands in the lent record: its answer without the state. The two ends have a
+// struct each, for the claims about lent records name `paper` and `host`.
 #[derive(Clone, Copy)]
 pub struct PrinterOutcome {
     pub code: Code,

@@ -1,4 +1,4 @@
-// The bulletin end's calls for a caller that keeps the state by value, as the printer end's.
+// The bulletin end's calls for a caller that keeps the state by value, as the printer end's: written out for the same reason.
 ghost use Rattle.lists.specs.Buffers.{lent};
 ghost use Rattle.bulletin.specs.Calls.{network_call, ask_call, define_call, use_call, text_call, issue_call};
 ghost use Rattle.bulletin.specs.Refinement.{view_bulletin, RefinesAnswer, RefinesAnswerOnWire};

@@ -1,5 +1,5 @@
-// The printer end's calls for a caller that keeps the state by value: each puts the state into a record of its own, lends that to
-// the call on a lent record, and returns what stands in it afterwards. Each contract is that of the call by value.
+// The printer end's calls for a caller that keeps the state by value: each lends the state that it was given to the call on a lent
+// one, and answers with what that leaves. No generic function over the calls: each is public, with the contract of the call by value.
 ghost use Rattle.lists.specs.Buffers.{lent};
 ghost use Rattle.printer.specs.Calls.{network_call, key_call};
 ghost use Rattle.printer.specs.Refinement.{view_printer, RefinesAnswer};

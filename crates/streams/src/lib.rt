@@ -1,5 +1,5 @@
-// What the programs do with what they are started with: arguments are counted, a reader is read until a buffer is full, a
-// failure is told.
+// What the programs do with what they are started with: arguments are counted and fetched, the file that one names is opened, a
+// reader is read until a buffer is full, a failure is told.
 #![tactic(auto)]
 
 ghost use Rattle.std.specs.Io.{ReadsAtMost};

@@ -29,7 +29,7 @@ fn in_force(on: bool, subject: Subject) -> Result<Subject, Note>
     if on { Ok(subject) } else { Err(Note::Inactive) }
 }
 
-// The same of the options about output disposition; any other has no bodies here.
+// One of the options about output disposition, in force; any other has no bodies here.
 fn disposition_checked(s: Sides, option: u8) -> Result<Subject, Note>
     ensures { result ≡ disposition_checked s option }
 {
@@ -40,19 +40,13 @@ fn disposition_checked(s: Sides, option: u8) -> Result<Subject, Note>
     )
 }
 
-// The checks behind the first: another option, not in force.
-#[tactic(auto, unfolding(crate::specs::Checks::option_checked, codes::specs::Dispositions::disposition_numbered))]
+// The checks after the first: another option, not in force.
+#[tactic(auto, unfolding(crate::specs::Checks::option_checked))]
 fn option_checked(end: End, s: Sides, option: u8) -> Result<Subject, Note>
     ensures { result ≡ option_checked end s option }
 {
     match option {
-        RCTE => {
-            if reads_rcte(end) {
-                in_force(negotiation::rcte_in_force(s), Subject::Rcte)
-            } else {
-                Err(Note::OtherOption)
-            }
-        }
+        RCTE if reads_rcte(end) => in_force(negotiation::rcte_in_force(s), Subject::Rcte),
         BM => in_force(negotiation::macros_in_force(end, s), Subject::Macro),
         _ => disposition_checked(s, option),
     }

@@ -1,8 +1,9 @@
 -- Running a tape on a fresh printer end: what it prints.
-use Rattle.std.specs.Prelude.{cond, List, [], ◌∷◌, ◌++◌, ℕ, ◌+◌, length, ltb, eqb, Option, Some, None, Ok, Err}
+use Rattle.std.specs.Prelude.{cond, List, [], ◌∷◌, ◌++◌, ℕ, ◌+◌, length, ltb, Option, Some, None, Ok, Err}
+use Rattle.std.specs.Result.{result_ok}
 use Rattle.codes.specs.declared.Code.TheVariants.{BadCommand}
 use Rattle.keys.specs.declared.Key.{Key}
-use Rattle.keys.specs.declared.Key.TheVariants.{Char, Line, Command}
+use Rattle.keys.specs.Keys.{key_of_pair}
 use Rattle.printer.specs.State.{PrinterState, fresh, CallEffect, refused}
 use Rattle.printer.specs.Calls.{network_call, key_call, ask_call}
 use Rattle.printer.specs.UnusedTails as T
@@ -34,11 +35,9 @@ begun = record { printer = fresh; tails = programs }
 abbrev pub with_room : TapeRun → TapeRun
 with_room r = record { printer = r.printer; tails = T.lent_afresh programs r.tails }
 
--- a pair (0, b) is Char(b), (1, 0) is Line, (2, c) is Command(c); a pair of no such form stands for no key
+-- the key that a pair stands for (keys/Keys.key_of_pair); another stands for none
 unfoldable pub pair_of : ℕ → ℕ → Option Key
-pair_of kind v =
-    cond (eqb kind 0) (Some (Char v))
-    (cond (eqb kind 2) (Some (Command v)) (cond (eqb kind 1) (cond (eqb v 0) (Some Line) None) None))
+pair_of kind v = result_ok (key_of_pair kind v)
 
 -- .. and is code 3
 abbrev pub typed_call : PrinterState → Option Key → ℕ → ℕ → CallEffect

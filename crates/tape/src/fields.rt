@@ -57,8 +57,8 @@ pub fn part_of(tape: &[u8], start: usize, size: usize) -> &[u8]
 pub fn body_at(tape: &[u8], at: usize) -> &[u8]
     ensures { result.now ≡ body_at tape.now at }
 {
-    match found_at(tape, Cursor { at }) {
-        Ok(Some(field)) => part_of(tape, field.start, field.size),
-        Ok(None) | Err(_) => &tape[..0],
-    }
+    let Ok(Some(field)) = found_at(tape, Cursor { at }) else {
+        return &[];
+    };
+    part_of(tape, field.start, field.size)
 }

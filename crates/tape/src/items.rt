@@ -25,24 +25,13 @@ pub fn next_item(tag: Tag, body: &[u8]) -> Option<Item>
     }
 }
 
-// The key that a pair stands for, if any. No TryFrom: a key is of a crate that knows no tapes.
-#[tactic(auto, unfolding(crate::specs::Running::pair_of))]
-fn key_of(kind: u8, v: u8) -> Option<Key>
-    ensures { result ≡ pair_of kind v }
-{
-    match (kind, v) {
-        (0, _) => Some(Key::Char(v)),
-        (1, 0) => Some(Key::Line),
-        (2, _) => Some(Key::Command(v)),
-        _ => None,
-    }
-}
-
 // A key pair. One that stands for no key is code 3 and never comes to the printer end.
+#[tactic(auto, unfolding(crate::specs::Running::pair_of))]
 fn press_pair(s: Printer, kind: u8, v: u8, paper: &mut [u8], wire: &mut [u8]) -> Answer
     ensures { RefinesAnswer (typed_call (view_printer s) (pair_of kind v)) s (lent paper) (lent wire) result }
 {
-    let Some(key) = key_of(kind, v) else {
+    let Ok(key) = Key::try_from((kind, v)) else {
+        // written out, as `printer::calls::refused` is private
         return Answer {
             code: Code::BadCommand,
             note: Note::Clear,
@@ -80,7 +69,7 @@ pub fn put_item(
     let line = Line {
         field: p.field,
         item: p.item,
-        code: answer.code.into(),
+        code: answer.code,
         paper: &paper[..answer.paper],
         wire: &wire[..answer.wire],
     };

@@ -73,7 +73,7 @@ pub struct TapeReader<'a> {
     pub at: usize,
 }
 
-// What a field holds: a network byte, the two bytes of a key, or an option and the way that it is asked for.
+// An item: a network byte, the two bytes of a key, or an option and the way that it is asked for.
 #[derive(Clone, Copy)]
 pub enum Item {
     NetworkByte(u8),

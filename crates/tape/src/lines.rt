@@ -2,10 +2,12 @@
 // beginning. No Display: the contracts say which bytes stand where in the lent output.
 ghost use mathlib.Core.List.{flat_map};
 ghost use Rattle.std.specs.Prelude.{◌≡◌, ◌<◌};
+ghost use Rattle.codes.specs.Answers.{code_number};
 ghost use Rattle.lists.specs.Buffers.{lent, WroteAtStart, RoomFor};
 ghost use Rattle.tape.specs.Lines.{hex_digit, hex_byte, hex_of, line_of, shows_nothing, shown, bad_tape};
 ghost use Rattle.tape.specs.Refinement.Parts.{hex_then, numbers_of, bytes_of};
 
+use codes::Code;
 use decimals::put_number;
 
 // Hex capitals.
@@ -66,7 +68,7 @@ fn put_hex_then(bytes: &[u8], then: u8, out: &mut [u8]) -> usize
 pub struct Line<'a> {
     pub field: usize,
     pub item: usize,
-    pub code: u8,
+    pub code: Code,
     pub paper: &'a [u8],
     pub wire: &'a [u8],
 }
@@ -74,12 +76,12 @@ pub struct Line<'a> {
 impl Line<'_> {
     // The numbers at its front.
     fn put_numbers(self, out: &mut [u8]) -> usize
-        requires { RoomFor (numbers_of self.field self.item self.code) out.old }
-        ensures { WroteAtStart (numbers_of self.entry.field self.entry.item self.entry.code) (lent out) result }
+        requires { RoomFor (numbers_of self.field self.item (code_number self.code)) out.old }
+        ensures { WroteAtStart (numbers_of self.entry.field self.entry.item (code_number self.entry.code)) (lent out) result }
     {
         let a = put_number(self.field, b'.', out);
         let b = a + put_number(self.item, b' ', &mut out[a..]);
-        b + put_number(self.code as usize, b' ', &mut out[b..])
+        b + put_number(u8::from(self.code) as usize, b' ', &mut out[b..])
     }
 
     // The bytes at its end.
@@ -94,8 +96,8 @@ impl Line<'_> {
 
     // `field.item code paper wire`
     fn put_line(self, out: &mut [u8]) -> usize
-        requires { RoomFor (line_of self.field self.item self.code self.paper.now self.wire.now) out.old }
-        ensures { WroteAtStart (line_of self.entry.field self.entry.item self.entry.code self.entry.paper.now self.entry.wire.now) (lent out) result }
+        requires { RoomFor (line_of self.field self.item (code_number self.code) self.paper.now self.wire.now) out.old }
+        ensures { WroteAtStart (line_of self.entry.field self.entry.item (code_number self.entry.code) self.entry.paper.now self.entry.wire.now) (lent out) result }
     {
         let a = self.put_numbers(out);
         a + self.put_both(&mut out[a..])
@@ -103,16 +105,16 @@ impl Line<'_> {
 
     // Whether the item gives no line: it has no code, no paper and no wire bytes.
     fn shows_nothing(self) -> bool
-        ensures { result ≡ shows_nothing self.entry.code self.entry.paper.now self.entry.wire.now }
+        ensures { result ≡ shows_nothing (code_number self.entry.code) self.entry.paper.now self.entry.wire.now }
     {
-        self.code == 0 && self.paper.is_empty() && self.wire.is_empty()
+        self.code == Code::Done && self.paper.is_empty() && self.wire.is_empty()
     }
 
     // The line, if the item gives one.
     #[tactic(auto, using(lists::proofs::Starts::wrote_none), unfolding(crate::specs::Lines::shown))]
     pub fn put_shown(self, out: &mut [u8]) -> usize
-        requires { RoomFor (shown self.field self.item self.code self.paper.now self.wire.now) out.old }
-        ensures { WroteAtStart (shown self.entry.field self.entry.item self.entry.code self.entry.paper.now self.entry.wire.now) (lent out) result }
+        requires { RoomFor (shown self.field self.item (code_number self.code) self.paper.now self.wire.now) out.old }
+        ensures { WroteAtStart (shown self.entry.field self.entry.item (code_number self.entry.code) self.entry.paper.now self.entry.wire.now) (lent out) result }
     {
         if self.shows_nothing() {
             return 0;

@@ -38,7 +38,8 @@ pub fn is_over(p: Place) -> bool
     p.over || p.next < p.field || p.at < p.item
 }
 
-// What the items are at a place. It has the tag as a number, for it is a host's: one that no field gives counts as that of asks.
+// What the items are at a place. A place has the tag as a number, and a host may put any there: one that no field has counts as
+// that of asks.
 fn kind_of(tag: u8) -> Tag
     ensures { result ≡ kind_of tag }
 {
@@ -180,7 +181,9 @@ fn refuse_tape(m: Machine, out: &mut [u8]) -> Stepped
     }
 }
 
-// One step.
+// One step. The output is a slice with a clause, and no array of a line's room: cut off by `first_chunk_mut` or
+// `split_first_chunk_mut`, it left `run` with no more than the length of what was cut, and `loop-buffers-preserved` and
+// `returns-in-loop-buffers` stayed open.
 fn step(tape: &[u8], m: Machine, buffers: &mut Buffers, out: &mut [u8]) -> Stepped
     requires { line_room ≤ length out.old }
     ensures { RefinesProgress (stepped tape.now (view_machine m)) m (lent out) result }

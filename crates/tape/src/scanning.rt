@@ -1,11 +1,11 @@
-// Reading a tape field by field, by a reader that stays over the host's slice.
+// Reading a tape field by field, by a reader that borrows the host's slice.
 ghost use Rattle.std.specs.Prelude.{◌≡◌};
 ghost use Rattle.tape.specs.Fields.{found_at};
 ghost use Rattle.tape.specs.Scanning.{reader_at, found_by, body_by, reader_after};
 
 use super::{BadField, Cursor, Field, TapeReader, fields};
 
-// No Iterator: at a bad field the reader stays, so that a `for` over it would not end.
+// No Iterator: by `next`'s clause the reader stays at a bad field, and tells that from the end (`reader_after`).
 impl<'a> TapeReader<'a> {
     // A reader at a place; the tape's start is 0.
     pub fn new(tape: &'a [u8], at: usize) -> TapeReader<'a>

@@ -8,8 +8,8 @@ use std::fmt::Display;
 // The numbers of an answer: its code, its note, the bytes in its two buffers, and how many keys wait after it.
 #[derive(Clone, Copy, PartialEq, Eq)]
 pub struct Numbers {
-    pub code: u8,
-    pub note: u8,
+    pub code: Code,
+    pub note: Note,
     pub first: usize,
     pub wire: usize,
     pub waiting: usize,
@@ -45,8 +45,8 @@ impl From<printer::Answer> for Made<Printer> {
     fn from(a: printer::Answer) -> Made<Printer> {
         Made {
             numbers: Numbers {
-                code: u8::from(a.code),
-                note: u8::from(a.note),
+                code: a.code,
+                note: a.note,
                 first: a.paper,
                 wire: a.wire,
                 waiting: a.state.waiting(),
@@ -60,8 +60,8 @@ impl From<bulletin::Answer> for Made<Bulletin> {
     fn from(a: bulletin::Answer) -> Made<Bulletin> {
         Made {
             numbers: Numbers {
-                code: u8::from(a.code),
-                note: u8::from(a.note),
+                code: a.code,
+                note: a.note,
                 first: a.host,
                 wire: a.wire,
                 waiting: a.state.waiting(),
@@ -75,8 +75,8 @@ impl Numbers {
     // Nothing to be shown: as many keys wait as before, and all else is none.
     pub fn shows_nothing(self, waited: usize) -> bool {
         let none = Numbers {
-            code: 0,
-            note: 0,
+            code: Code::Done,
+            note: Note::Clear,
             first: 0,
             wire: 0,
             waiting: waited,
@@ -114,6 +114,12 @@ impl<'a> Display for Shown<'a> {
         let n = self.numbers;
         let first = Hex(&self.first[..n.first.min(self.first.len())]);
         let wire = Hex(&self.wire[..n.wire.min(self.wire.len())]);
-        write!(f, "{} {} {first} {wire} {}", n.code, n.note, n.waiting)
+        write!(
+            f,
+            "{} {} {first} {wire} {}",
+            u8::from(n.code),
+            u8::from(n.note),
+            n.waiting
+        )
     }
 }

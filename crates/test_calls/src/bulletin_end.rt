@@ -53,7 +53,7 @@ fn ask(rt: &impl Print, run: &mut Run, bytes: &[u8]) -> Result<(), BadLine> {
     Ok(())
 }
 
-// Orders and suggestions have no form yet that makes the record itself, and are made by value at both.
+// `sessions` has no recorded form of orders and suggestions: they are made by value at both.
 fn suggest(rt: &impl Print, run: &mut Run, bytes: &[u8]) -> Result<(), BadLine> {
     let [option, v] = hex::exactly::<2>(bytes)?;
     run.bulletin.call(
@@ -122,6 +122,7 @@ fn issue(rt: &impl Print, run: &mut Run, bytes: &[u8]) -> Result<(), BadLine> {
 fn asked(rt: &impl Print, run: &Run, named: Named, bytes: &[u8]) -> Result<(), BadLine> {
     let s = run.bulletin.by_value;
     let line = run.setting.line;
+    // matched on as in line_run
     match named {
         Named::Report => {
             let [] = hex::exactly::<0>(bytes)?;
@@ -142,6 +143,7 @@ fn asked(rt: &impl Print, run: &Run, named: Named, bytes: &[u8]) -> Result<(), B
 
 pub fn line_run(rt: &impl Print, run: &mut Run, head: Head, bytes: &[u8]) -> Result<(), BadLine> {
     run.next_line();
+    // a match on the call's name: each call has other arguments
     match head.named.ok_or(BadLine::BulletinCall)? {
         Named::Network => network(rt, run, bytes),
         Named::Text => text(rt, run, head.kind, bytes)?,

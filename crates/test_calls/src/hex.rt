@@ -17,7 +17,8 @@ fn hex_value(digit: u8) -> Option<u8>
     }
 }
 
-// The number at the front of a text, and what stands behind it; five digits are enough.
+// The number at the front of a text, and what stands behind it; five digits are enough. By hand: `parse` takes a whole
+// text, and knows no limit of five digits.
 pub fn split_number(text: &[u8]) -> (usize, &[u8])
     ensures { length result.1.now ≤ length text.now }
 {
@@ -50,7 +51,8 @@ fn put(high: u8, low: u8, count: usize, bytes: &mut [u8]) -> Option<usize> {
     Some(count + 1)
 }
 
-// The bytes that a text says, at the start of the buffer.
+// The bytes that a text says, at the start of the buffer. No Vec: there is no heap here, so the caller lends the room, and a
+// count stands beside it.
 pub fn read<'a>(text: &[u8], bytes: &'a mut [u8]) -> Option<&'a [u8]> {
     let mut count: usize = 0;
     let mut rest = text;

@@ -1,7 +1,7 @@
 // A list is run line by line.
 use crate::bad_line::BadLine;
 use crate::run::{PAPER_ROOM, Run, Setting, WIRE_ROOM};
-use crate::words::{self, Named};
+use crate::words::{self, Head, Named};
 use crate::{bulletin_end, hex, printer_end};
 
 // `room PAPER WIRE`: how large a buffer is lent from here on.
@@ -21,24 +21,15 @@ fn room(run: &mut Run, line: &[u8]) -> Result<(), BadLine> {
     Ok(())
 }
 
-// A line of calls, behind the letter of its end.
-fn line_of_calls(
-    rt: &impl Print,
-    run: &mut Run,
-    is_printer: bool,
-    line: &[u8],
-) -> Result<(), BadLine> {
-    let mut buffer = [0u8; hex::ROOM];
+// The call that a line names behind the letter of its end, and its bytes.
+fn call_in<'a>(line: &'a [u8], buffer: &'a mut [u8]) -> Result<(Head<'a>, &'a [u8]), BadLine> {
     let head = words::head_of(line);
-    let bytes = hex::read(head.rest, &mut buffer).ok_or(BadLine::Bytes)?;
-    if is_printer {
-        printer_end::line_run(rt, run, head, bytes)
-    } else {
-        bulletin_end::line_run(rt, run, head, bytes)
-    }
+    let bytes = hex::read(head.rest, buffer).ok_or(BadLine::Bytes)?;
+    Ok((head, bytes))
 }
 
 fn line_run(rt: &impl Print, run: &mut Run, line: &[u8]) -> Result<(), BadLine> {
+    let mut buffer = [0u8; hex::ROOM];
     match line {
         [b'#', ..] => {
             let _ = rt.write_all(line);
@@ -52,8 +43,14 @@ fn line_run(rt: &impl Print, run: &mut Run, line: &[u8]) -> Result<(), BadLine> 
             };
         }
         [b'r', ..] => room(run, line)?,
-        [b'P', rest @ ..] => line_of_calls(rt, run, true, rest)?,
-        [b'B', rest @ ..] => line_of_calls(rt, run, false, rest)?,
+        [b'P', rest @ ..] => {
+            let (head, bytes) = call_in(rest, &mut buffer)?;
+            printer_end::line_run(rt, run, head, bytes)?;
+        }
+        [b'B', rest @ ..] => {
+            let (head, bytes) = call_in(rest, &mut buffer)?;
+            bulletin_end::line_run(rt, run, head, bytes)?;
+        }
         _ => return Err(BadLine::Beginning),
     }
     Ok(())

@@ -41,8 +41,9 @@ fn keys(rt: &impl Print, run: &mut Run, kind: Option<Kind>, bytes: &[u8]) -> Res
     Ok(())
 }
 
-// Asks and suggestions have no form yet that makes the record itself, and are made by value at both.
-fn ask(rt: &impl Print, run: &mut Run, option: u8, way: u8) {
+// `sessions` has no recorded form of asks and suggestions: they are made by value at both.
+fn ask(rt: &impl Print, run: &mut Run, bytes: &[u8]) -> Result<(), BadLine> {
+    let [option, way] = hex::exactly::<2>(bytes)?;
     run.printer.call(
         rt,
         run.setting,
@@ -50,9 +51,11 @@ fn ask(rt: &impl Print, run: &mut Run, option: u8, way: u8) {
         |s, paper, wire| calls::ask(s, option, way, paper, wire),
         |s, paper, wire| calls::ask(s, option, way, paper, wire),
     );
+    Ok(())
 }
 
-fn suggest(rt: &impl Print, run: &mut Run, option: u8, v: u8) {
+fn suggest(rt: &impl Print, run: &mut Run, bytes: &[u8]) -> Result<(), BadLine> {
+    let [option, v] = hex::exactly::<2>(bytes)?;
     run.printer.call(
         rt,
         run.setting,
@@ -60,25 +63,24 @@ fn suggest(rt: &impl Print, run: &mut Run, option: u8, v: u8) {
         |s, paper, wire| calls::suggest(s, option, v, paper, wire),
         |s, paper, wire| calls::suggest(s, option, v, paper, wire),
     );
+    Ok(())
+}
+
+fn report(rt: &impl Print, run: &Run, bytes: &[u8]) -> Result<(), BadLine> {
+    let [] = hex::exactly::<0>(bytes)?;
+    questions::report(rt, run.setting.line, calls::report(run.printer.by_value));
+    Ok(())
 }
 
 pub fn line_run(rt: &impl Print, run: &mut Run, head: Head, bytes: &[u8]) -> Result<(), BadLine> {
     run.next_line();
-    match head.named {
-        Some(Named::Network) => network(rt, run, bytes),
-        Some(Named::Key) => keys(rt, run, head.kind, bytes)?,
-        Some(Named::Ask) => {
-            let [option, way] = hex::exactly::<2>(bytes)?;
-            ask(rt, run, option, way);
-        }
-        Some(Named::Suggest) => {
-            let [option, v] = hex::exactly::<2>(bytes)?;
-            suggest(rt, run, option, v);
-        }
-        Some(Named::Report) => {
-            let [] = hex::exactly::<0>(bytes)?;
-            questions::report(rt, run.setting.line, calls::report(run.printer.by_value));
-        }
+    // a match on the call's name: each call has other arguments
+    match head.named.ok_or(BadLine::PrinterCall)? {
+        Named::Network => network(rt, run, bytes),
+        Named::Key => keys(rt, run, head.kind, bytes)?,
+        Named::Ask => ask(rt, run, bytes)?,
+        Named::Suggest => suggest(rt, run, bytes)?,
+        Named::Report => report(rt, run, bytes)?,
         _ => return Err(BadLine::PrinterCall),
     }
     Ok(())

@@ -60,6 +60,7 @@ fn split_word(line: &[u8]) -> (&[u8], &[u8]) {
     line.split_at(end.unwrap_or(line.len()))
 }
 
+// No TryFrom, here and below: there is nothing to tell of a word that is none.
 fn name_of(word: &[u8]) -> Option<Named> {
     match word {
         b"net" => Some(Named::Network),

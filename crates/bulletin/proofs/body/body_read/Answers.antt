@@ -7,11 +7,11 @@ use Rattle.bulletin.proofs.body.body_read.Goals as goal
 
 pub handled-requires : goal.handled-requires
 handled-requires c =
-    rw (body_end (view_bulletin c.args.s) (view_reader c.idle.result) c.body_checked-checked.result (ap view_reader c.idle.ensures) c.body_checked-checked.ensures, ← c.body_len.ensures) at c.requires
+    rw (body_end (view_bulletin c.args.s) (view_reader c.idle.result) c.body_checked-subject.result (ap view_reader c.idle.ensures) c.body_checked-subject.ensures, ← c.kept_body.ensures) at c.requires
 
 pub returns : goal.returns
 returns c =
-    rw (body_end (view_bulletin c.args.s) (view_reader c.idle.result) c.body_checked-checked.result (ap view_reader c.idle.ensures) c.body_checked-checked.ensures, ← c.body_len.ensures)
+    rw (body_end (view_bulletin c.args.s) (view_reader c.idle.result) c.body_checked-subject.result (ap view_reader c.idle.ensures) c.body_checked-subject.ensures, ← c.kept_body.ensures)
     (record {
       met = λ host.
           let e = c.handled.ensures.met host in

@@ -14,5 +14,5 @@ returns-then-no_wire c = rw (sym c.no_wire.ensures ∙ c.if-no_wire.true, c.refu
 pub returns : goal.returns
 unfolding issue_call guarded
 returns c =
-    rw (sym c.no_wire.ensures ∙ c.if-no_wire.false, ← c.with_present.ensures, c.done.ensures.0)
+    rw (sym c.no_wire.ensures ∙ c.if-no_wire.false, c.done.ensures.0)
     (done_on_wire c.sends.ensures (met_step Clear (met_issues _) (wrote_none _)) c.done.ensures.1)

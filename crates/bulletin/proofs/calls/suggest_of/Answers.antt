@@ -20,6 +20,6 @@ returns c =
     let a = c.args in
     let guards = suggest_guards a.d (disposition_in_force a.s.sides a.d) (values_of a.s.values a.d).ds a.v in
     let refusal : c.suggest_refusal.result ≡ allowed guards = rw (c.disposition_in_force-on.ensures, c.of-old.ensures) at c.suggest_refusal.ensures in
-    rw (c.done.ensures.0, ← rw c.of-old.ensures at c.with_ds.ensures)
+    rw c.done.ensures.0
     (passed_on_wire guards _ refusal c.in_default.is
-    (done_on_wire c.sends.ensures (met_step Clear c.with_values-t.ensures c.put_suggestion-n.ensures) c.done.ensures.1))
+    (done_on_wire c.sends.ensures (met_step Clear (rw c.of-old.ensures at c.with_values-t.ensures) c.put_suggestion-n.ensures) c.done.ensures.1))

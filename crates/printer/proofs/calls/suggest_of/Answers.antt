@@ -13,15 +13,15 @@ returns-in-Err c =
     rw (← c.disposition_in_force-on.ensures, ← c.of-old.ensures, guarded_by, stops, c.refused.ensures)
     (record { met = λ paper. met_refused })
 
-pub returns-in-Ok : goal.returns-in-Ok
-returns-in-Ok c =
-    let passes : allowed (suggest_guards c.args.d c.disposition_in_force-on.result c.of-old.result.dr c.args.v) ≡ Ok tt = sym c.suggest_refusal.ensures ∙ c.in-Ok.is in
-    rw (← c.disposition_in_force-on.ensures, ← c.of-old.ensures, guarded_by, passes, c.with.ensures, c.with_dr.ensures)
+pub returns : goal.returns
+returns c =
+    let passes : allowed (suggest_guards c.args.d c.disposition_in_force-on.result c.of-old.result.dr c.args.v) ≡ Ok tt = sym c.suggest_refusal.ensures ∙ c.in_default.is in
+    rw (← c.disposition_in_force-on.ensures, ← c.of-old.ensures, guarded_by, passes, c.done.ensures.0, c.sends.ensures, c.with.ensures)
     (record {
       met = λ paper. record {
         code = refl;
         note = refl;
-        wrote = record { paper = wrote_none paper; wire = c.put_suggestion.ensures };
+        wrote = record { paper = wrote_none paper; wire = c.put_suggestion-n.ensures };
         view = refl;
         clean = λ k. record { reader = k.reader; table = k.table; rcte = k.rcte };
         whole = λ k. record { body = k.body; cells = k.cells; waiting = k.waiting; gathered = k.gathered };

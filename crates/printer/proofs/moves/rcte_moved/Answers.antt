@@ -7,5 +7,5 @@ use Rattle.printer.proofs.moves.rcte_moved.Goals as goal
 pub returns-in-false-true : goal.returns-in-false-true
 unfolding side_moved
 returns-in-false-true c =
-    rw (sym c.in-false-true.ensures, sym c.in-false-true.ensures', c.note_alone.ensures, c.moved.ensures)
+    rw (sym c.in-false-true.ensures, sym c.in-false-true.ensures', c.notes.ensures, c.moved.ensures)
     (met_still _ _ _ (record { view = rw c.started.ensures; clean = λ k. record { reader = k.reader; table = k.table; rcte = rw c.started.ensures started_clean } }) _ _)

@@ -1,81 +1,46 @@
+use Prim.Native.Nat.{◌<◌}
 use mathlib.Core.Path.{◌≡◌}
-use Prim.Native.Nat.{◌+◌, ◌-◌}
 use native.Mathlib.Omega.{arith}
-use lib.ListN.{take, drop}
-use Rattle.std.proofs.lemmas.List.{take_rest}
-use Rattle.lists.specs.Buffers.{lent_as, untouched, WroteAtStart}
-use Rattle.lists.proofs.Parts.{rest_of}
-use Rattle.printer.proofs.Texts.{begun, paper_within, paper_next, wire_next, turn, paper_counted, wire_counted, ended}
-use Rattle.printer.proofs.TextStretch.{stretch_within, stretch_room, turn_stretch, stretch_counted}
+use lib.ListN.{length, length-take}
+use Rattle.std.proofs.lemmas.Grind.{common_steps}
+use Rattle.printer.proofs.TextRest.{rest_begun, rest_within, rest_room, rest_printed, paper_first, wire_first, rest_turn, rest_ended}
 use Rattle.printer.proofs.network.text_read.Goals as goal
 
-pub loop-i-init : goal.loop-i-init
-loop-i-init c = begun c.args.s c.args.bytes.now c.args.paper.now c.args.wire.now
-
-pub overflow_add-end : goal.overflow_add-end
-overflow_add-end c =
-    let plain = rw (c.parts.ensures, take_rest) at c.text_stretch-n.ensures in
-    omega (arith, stretch_within c.loop-i.invariant c.requires.room_for c.requires.room_for_2 c.text_stretch-n.result plain)
+pub loop-rest-init : goal.loop-rest-init
+loop-rest-init c = rw c.notes-done.ensures (rest_begun c.args.s c.args.bytes.now c.args.paper.now c.args.wire.now)
 
 pub slice_bounds-put_bytes-end : goal.slice_bounds-put_bytes-end
 slice_bounds-put_bytes-end c =
-    let plain = rw (c.parts.ensures, take_rest) at c.text_stretch-n.ensures in
-    omega (arith, stretch_within c.loop-i.invariant c.requires.room_for c.requires.room_for_2 c.text_stretch-n.result plain)
+    let plain = rw c.parts.ensures at c.text_stretch-n.ensures in
+    simp length-take (omega (arith, rest_within c.loop-rest.invariant c.requires.room_for c.requires.room_for_2 c.text_stretch-n.result plain))
 
-pub slice_bounds-put_bytes-count-then-n-gt0 : goal.slice_bounds-put_bytes-count-then-n-gt0
-slice_bounds-put_bytes-count-then-n-gt0 c = paper_within c.loop-i.invariant c.requires.room_for c.requires.room_for_2
+pub put_bytes-requires : goal.put_bytes-requires
+put_bytes-requires c = rest_room c.loop-rest.invariant c.requires.room_for c.requires.room_for_2 c.text_stretch-n.result (rw c.parts.ensures at c.text_stretch-n.ensures)
 
-pub slice_bounds-put_bytes-start-then-n-gt0 : goal.slice_bounds-put_bytes-start-then-n-gt0
-slice_bounds-put_bytes-start-then-n-gt0 c = paper_within c.loop-i.invariant c.requires.room_for c.requires.room_for_2
+pub slice_bounds-rest-count : goal.slice_bounds-rest-count
+slice_bounds-rest-count c = rest_within c.loop-rest.invariant c.requires.room_for c.requires.room_for_2 c.text_stretch-n.result (rw c.parts.ensures at c.text_stretch-n.ensures)
 
-pub put_bytes-p-requires : goal.put_bytes-p-requires
-put_bytes-p-requires c =
-    let plain = rw (c.parts.ensures, take_rest) at c.text_stretch-n.ensures in
-    let i = c.loop-i.i in
-    let n = c.text_stretch-n.result in
-    let same : i + n - i ≡ n = omega arith in
-    rw same (stretch_room c.loop-i.invariant c.requires.room_for c.requires.room_for_2 n plain)
+pub slice_bounds-rest-start : goal.slice_bounds-rest-start
+slice_bounds-rest-start c = rest_within c.loop-rest.invariant c.requires.room_for c.requires.room_for_2 c.text_stretch-n.result (rw c.parts.ensures at c.text_stretch-n.ensures)
 
-pub overflow_add-p : goal.overflow_add-p
-overflow_add-p c =
-    let plain = rw (c.parts.ensures, take_rest) at c.text_stretch-n.ensures in
-    let i = c.loop-i.i in
-    let n = c.text_stretch-n.result in
-    let same : i + n - i ≡ n = omega arith in
-    let copied : WroteAtStart (take n (drop i c.args.bytes.now)) (lent_as (rest_of (untouched c.loop-i.paper) c.loop-i.p) c.put_bytes-p.new.out) c.put_bytes-p.result = rw same at c.put_bytes-p.ensures in
-    omega (arith, stretch_counted c.loop-i.invariant c.requires.room_for c.requires.room_for_2 n plain copied)
-
-pub loop-i-smaller-then-n-gt0 : goal.loop-i-smaller-then-n-gt0
-loop-i-smaller-then-n-gt0 c =
-    let plain = rw (c.parts.ensures, take_rest) at c.text_stretch-n.ensures in
-    omega (arith, stretch_within c.loop-i.invariant c.requires.room_for c.requires.room_for_2 c.text_stretch-n.result plain)
-
-pub loop-i-preserved-then-n-gt0 : goal.loop-i-preserved-then-n-gt0
-loop-i-preserved-then-n-gt0 c =
-    let plain = rw (c.parts.ensures, take_rest) at c.text_stretch-n.ensures in
-    let i = c.loop-i.i in
-    let n = c.text_stretch-n.result in
-    let same : i + n - i ≡ n = omega arith in
-    let copied : WroteAtStart (take n (drop i c.args.bytes.now)) (lent_as (rest_of (untouched c.loop-i.paper) c.loop-i.p) c.put_bytes-p.new.out) c.put_bytes-p.result = rw same at c.put_bytes-p.ensures in
-    turn_stretch c.loop-i.invariant c.requires.room_for c.requires.room_for_2 n plain copied
-
-pub slice_bounds-byte_read-count : goal.slice_bounds-byte_read-count
-slice_bounds-byte_read-count c = paper_within c.loop-i.invariant c.requires.room_for c.requires.room_for_2
-
-pub slice_bounds-byte_read-start : goal.slice_bounds-byte_read-start
-slice_bounds-byte_read-start c = paper_within c.loop-i.invariant c.requires.room_for c.requires.room_for_2
+pub loop-rest-preserved-then-n-gt0 : goal.loop-rest-preserved-then-n-gt0
+loop-rest-preserved-then-n-gt0 c =
+    rest_printed c.loop-rest.invariant c.requires.room_for c.requires.room_for_2 c.text_stretch-n.result (rw c.parts.ensures at c.text_stretch-n.ensures) c.put_bytes.ensures
 
 pub byte_read-step-requires : goal.byte_read-step-requires
-byte_read-step-requires c = record { room_for = paper_next c.loop-i.invariant c.requires.room_for c.requires.room_for_2 c.loop-i-test.true; room_for_2 = wire_next c.loop-i.invariant c.requires.room_for c.requires.room_for_2 c.loop-i-test.true }
+byte_read-step-requires c =
+    let some : 0 < length c.loop-rest.rest.now = grind (arith, common_steps, c.is_empty.ensures, c.loop-rest-test.true) in
+    record {
+      room_for = paper_first c.loop-rest.invariant c.requires.room_for c.requires.room_for_2 some;
+      room_for_2 = wire_first c.loop-rest.invariant c.requires.room_for c.requires.room_for_2 some;
+    }
 
-pub overflow_add-p-in-loop-i : goal.overflow_add-p-in-loop-i
-overflow_add-p-in-loop-i c = omega (arith, paper_counted c.loop-i.invariant c.requires.room_for c.requires.room_for_2 c.loop-i-test.true c.byte_read-step.ensures)
-
-pub overflow_add-w : goal.overflow_add-w
-overflow_add-w c = omega (arith, wire_counted c.loop-i.invariant c.requires.room_for c.requires.room_for_2 c.loop-i-test.true c.byte_read-step.ensures)
-
-pub loop-i-preserved : goal.loop-i-preserved
-loop-i-preserved c = rw c.first_note-note.ensures (turn c.loop-i.invariant c.requires.room_for c.requires.room_for_2 c.loop-i-test.true c.byte_read-step.ensures)
+pub loop-rest-preserved : goal.loop-rest-preserved
+loop-rest-preserved c =
+    let some : 0 < length c.loop-rest.rest.now = grind (arith, common_steps, c.is_empty.ensures, c.loop-rest-test.true) in
+    rw c.first_note.ensures (rest_turn c.loop-rest.invariant c.requires.room_for c.requires.room_for_2 some c.byte_read-step.ensures)
 
 pub returns : goal.returns
-returns c = ended c.loop-i.invariant c.requires.room_for c.requires.room_for_2 (omega (arith, c.loop-i-test.false))
+returns c =
+    let none : length c.loop-rest.rest.now ≡ 0 = grind (arith, common_steps, c.is_empty.ensures, c.loop-rest-test.false) in
+    rest_ended c.loop-rest.invariant c.requires.room_for c.requires.room_for_2 none

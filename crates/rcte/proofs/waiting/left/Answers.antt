@@ -17,6 +17,6 @@ returns c =
     let of = c.waiting_numbers-numbers.ensures in
     rw c.cells_of-waiting.ensures
     (record {
-      rcte = rw (left_keys e numbers rest c.args.at c.min.result l of c.min.ensures whole);
-      clean = λ h k. record { waiting = left_clean e numbers rest c.args.at c.min.result l of c.min.ensures whole; numbers = left_numbers e numbers rest c.args.at c.min.result l of c.min.ensures whole k; gathered = h };
+      rcte = rw (left_keys e numbers rest c.args.taken c.min.result l of c.min.ensures whole);
+      clean = λ h k. record { waiting = left_clean e numbers rest c.args.taken c.min.result l of c.min.ensures whole; numbers = left_numbers e numbers rest c.args.taken c.min.result l of c.min.ensures whole k; gathered = h };
     })

@@ -18,4 +18,4 @@ pub returns-in_err-read-clause-reads : goal.returns-in_err-read-clause-reads
 returns-in_err-read-clause-reads c =
     let none : c.from_residual.result ≡ None = search rules in
     let stays = byte_stays (arrays_in c.args.self.now) c.args.b (rw c.parts_in.ensures at c.in_err-read.ensures) in
-    rw none (refl, stays.0, stays.1)
+    rw none (stays.0, refl, stays.1, stays.2)
