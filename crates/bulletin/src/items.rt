@@ -110,7 +110,10 @@ pub fn put_item(s: Bulletin, k: Key, wire: &mut [u8]) -> usize
     if keys::is_command(k) {
         return wire::put_key(k, wire);
     }
+    // Both before the data: looked up behind it, the state is copied once more.
+    let handlings = handlings_now(s);
+    let table = table_now(s);
     let mut data = [0u8; ITEM_ROOM];
-    let n = disposition::put_item(handlings_now(s), k, &mut data);
-    sent_macros::put_data(table_now(s), &data[..n], wire)
+    let n = disposition::put_item(handlings, k, &mut data);
+    sent_macros::put_data(table, &data[..n], wire)
 }

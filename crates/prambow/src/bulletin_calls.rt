@@ -78,7 +78,7 @@ pub fn prambow_bulletin_network_byte_arrays(
         kept,
     };
     let a = calls::network_byte(arrays.decoded(), b, host, wire);
-    arrays.answer(a)
+    arrays.kept(&a)
 }
 
 // Network bytes one after the other, as `bulletin::calls::network_bytes` reads them. Stops before one that would be refused, and
@@ -147,7 +147,7 @@ pub fn prambow_bulletin_ask_arrays(
         kept,
     };
     let a = calls::ask(arrays.decoded(), option, way, wire);
-    arrays.answer(a)
+    arrays.kept(&a)
 }
 
 pub fn prambow_bulletin_suggest_arrays(
@@ -176,7 +176,7 @@ pub fn prambow_bulletin_suggest_arrays(
         kept,
     };
     let a = calls::suggest(arrays.decoded(), option, v, wire);
-    arrays.answer(a)
+    arrays.kept(&a)
 }
 
 pub fn prambow_bulletin_order_arrays(
@@ -206,7 +206,7 @@ pub fn prambow_bulletin_order_arrays(
         kept,
     };
     let a = calls::order(arrays.decoded(), cmd, breaks, sends, wire);
-    arrays.answer(a)
+    arrays.kept(&a)
 }
 
 pub fn prambow_bulletin_define_arrays(
@@ -235,7 +235,7 @@ pub fn prambow_bulletin_define_arrays(
         kept,
     };
     let a = calls::define(arrays.decoded(), x, text, wire);
-    arrays.answer(a)
+    arrays.kept(&a)
 }
 
 pub fn prambow_bulletin_use_macro_arrays(
@@ -263,7 +263,7 @@ pub fn prambow_bulletin_use_macro_arrays(
         kept,
     };
     let a = calls::use_macro(arrays.decoded(), x, wire);
-    arrays.answer(a)
+    arrays.kept(&a)
 }
 
 // The item is a pair of numbers, as a key; one that stands for none is refused with code 3.
@@ -293,7 +293,7 @@ pub fn prambow_bulletin_text_item_arrays(
         kept,
     };
     let a = calls::text_item(arrays.decoded(), numbers::key_of_pair(kind, b), wire);
-    arrays.answer(a)
+    arrays.kept(&a)
 }
 
 pub fn prambow_bulletin_issue_arrays(
@@ -321,7 +321,7 @@ pub fn prambow_bulletin_issue_arrays(
         kept,
     };
     let a = calls::issue(arrays.decoded(), n, wire);
-    arrays.answer(a)
+    arrays.kept(&a)
 }
 
 // How the last DEFINE of a byte stands, and the issue that it kept. It looks at BM's state, the statuses and the issues alone.
@@ -335,7 +335,7 @@ pub fn prambow_bulletin_macro_standing_arrays(
     ensures { SaysStanding x small.now statuses.now issue.now kept.now result }
 {
     let present = issue[0];
-    if negotiation::macros_in_force(End::Bulletin, numbers::sides_in(small)) {
+    if negotiation::macros_in_force(End::Bulletin, bulletin_arrays::sides_in(small)) {
         return StandingNumbers {
             status: sent_macros::status_at(statuses, x).into(),
             kept: kept[x as usize],
@@ -353,7 +353,11 @@ pub fn prambow_bulletin_macro_standing_arrays(
 pub fn prambow_bulletin_report_arrays(small: &[u8; 23]) -> Reported
     ensures { ReportsBulletin small.now result }
 {
-    disposition::handlings_in(numbers::sides_in(small), numbers::values_in(small, 15)).into()
+    disposition::handlings_in(
+        bulletin_arrays::sides_in(small),
+        bulletin_arrays::values_in(small),
+    )
+    .into()
 }
 
 // Whether output waits: 0 ready, 1 waiting; a number and no `bulletin::Output`, for it goes to C.

@@ -15,7 +15,7 @@ use rcte::{GATHER_ROOM, WAIT_ROOM};
 use reader::BODY_ROOM;
 use received_macros::ROOM;
 use session_arrays::printer_arrays::LentPrinterArrays;
-use session_arrays::{Outcome, Reported, RunOutcome, numbers, printer_runs};
+use session_arrays::{Outcome, Reported, RunOutcome, numbers, printer_arrays, printer_runs};
 
 pub fn prambow_printer_fresh_arrays(
     small: &mut [u8; 22],
@@ -68,7 +68,7 @@ pub fn prambow_printer_network_byte_arrays(
         gathered,
     };
     let a = calls::network_byte(arrays.decoded(), b, paper, wire);
-    arrays.answer(a)
+    arrays.kept(&a)
 }
 
 // Network bytes one after the other, as `printer::calls::network_bytes` reads them. Stops before one that would be refused, and
@@ -139,7 +139,7 @@ pub fn prambow_printer_press_arrays(
         gathered,
     };
     let a = calls::press(arrays.decoded(), numbers::key_of_pair(kind, b), paper, wire);
-    arrays.answer(a)
+    arrays.kept(&a)
 }
 
 pub fn prambow_printer_ask_arrays(
@@ -169,7 +169,7 @@ pub fn prambow_printer_ask_arrays(
         gathered,
     };
     let a = calls::ask(arrays.decoded(), option, way, paper, wire);
-    arrays.answer(a)
+    arrays.kept(&a)
 }
 
 pub fn prambow_printer_suggest_arrays(
@@ -199,14 +199,18 @@ pub fn prambow_printer_suggest_arrays(
         gathered,
     };
     let a = calls::suggest(arrays.decoded(), option, v, paper, wire);
-    arrays.answer(a)
+    arrays.kept(&a)
 }
 
 // Of each option about output disposition who handles its character, and how. It looks at the small parts alone.
 pub fn prambow_printer_report_arrays(small: &[u8; 22]) -> Reported
     ensures { ReportsPrinter small.now result }
 {
-    disposition::handlings_in(numbers::sides_in(small), numbers::values_in(small, 14)).into()
+    disposition::handlings_in(
+        printer_arrays::sides_in(small),
+        printer_arrays::values_in(small),
+    )
+    .into()
 }
 
 // How many keys wait. It looks at the counts alone.

@@ -10,6 +10,7 @@ pub mod Bodies
 pub mod Choosing
 pub mod PlainBytes
 pub mod InPlace
+pub mod InPlaceRuns
 pub mod AnsweringInPlace
 pub mod MarkedBytes
 pub mod Texts

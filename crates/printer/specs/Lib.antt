@@ -9,7 +9,7 @@ pub mod NetworkRun
 pub mod Limits
 pub mod Refinement
 pub mod RefinementOfRuns
-pub mod NetworkEnd
 pub mod InPlace
+pub mod NetworkEnd
 pub mod EmptyTable
 pub mod Apart

@@ -133,10 +133,11 @@ pub fn ask(s: Printer, option: u8, way: u8, paper: &mut [u8], wire: &mut [u8]) -
     if codes::no_room(paper.len(), wire.len()) {
         return refused(s, Code::NoRoom);
     }
-    match negotiation::asked_by(End::Printer, s.sides, option, way) {
-        Err(code) => refused(s, code),
-        Ok(turn) => done(moves::moved_with_reply(s, turn, option, paper, wire)),
-    }
+    let turn = match negotiation::asked_by(End::Printer, s.sides, option, way) {
+        Ok(turn) => turn,
+        Err(code) => return refused(s, code),
+    };
+    done(moves::moved_with_reply(s, turn, option, paper, wire))
 }
 
 // This end's value about an option's character, DR.

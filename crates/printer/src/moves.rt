@@ -16,11 +16,13 @@ use rcte::RcteStep;
 pub fn after_rcte(s: Printer, e: RcteStep) -> Step
     ensures { result ≡ rcte_stepped s e }
 {
+    let mut state = s;
+    state.rcte = e.rcte;
     Step {
         note: Note::Clear,
         paper: e.paper,
         wire: e.wire,
-        state: Printer { rcte: e.rcte, ..s },
+        state,
     }
 }
 

@@ -1,13 +1,14 @@
 // The printer end reads runs of network bytes.
-ghost use Rattle.std.specs.Prelude.{◌≡◌};
+ghost use Rattle.std.specs.Prelude.{◌≡◌, false, length};
+ghost use Rattle.codes.specs.Answers.{no_room};
 ghost use Rattle.lists.specs.Buffers.{lent};
 ghost use Rattle.printer.specs.State.{PrinterState, Effect, CallEffect};
 ghost use Rattle.printer.specs.NetworkRun.{printer_byte};
-ghost use Rattle.printer.specs.NetworkEnd.{lawful, Keeps};
+ghost use Rattle.printer.specs.NetworkEnd.{lawful, Keeps, Reads, in_place_of, ReadsInPlace};
 ghost use Rattle.printer.specs.Refinement.{view_printer};
 ghost use Rattle.printer.specs.RefinementOfRuns.{RefinesRun, begun_run, refused_run};
 
-use crate::{Printer, RunAnswer, network};
+use crate::{Printer, RunAnswer, in_place, network};
 use codes::{Code, Note};
 use reader::{ByteOutcome, ReadsNetwork};
 
@@ -35,6 +36,34 @@ impl ReadsNetwork for Printer {
     }
 
     fn read(&mut self, b: u8, paper: &mut [u8], wire: &mut [u8]) -> ByteOutcome {
+        match self.read_in_place(b, paper, wire) {
+            Some(read) => read,
+            None => self.read_by_value(b, paper, wire),
+        }
+    }
+}
+
+impl Printer {
+    // A byte that changes nothing but the option states and the phase: the rest of the state stays where it lies.
+    fn read_in_place(&mut self, b: u8, paper: &mut [u8], wire: &mut [u8]) -> Option<ByteOutcome>
+        requires { no_room (length paper.old) (length wire.old) ≡ false }
+        ensures { ReadsInPlace (in_place_of self.old b) b self.old self.new (lent paper) (lent wire) result }
+    {
+        let table = &self.table;
+        let read = in_place::read(self.parts(), &table.marks, &table.cells, b, paper, wire)?;
+        self.sides = read.parts.sides;
+        self.reader.phase = read.parts.phase;
+        Some(ByteOutcome {
+            note: Note::Clear,
+            first: read.paper,
+            wire: read.wire,
+        })
+    }
+
+    fn read_by_value(&mut self, b: u8, paper: &mut [u8], wire: &mut [u8]) -> ByteOutcome
+        requires { no_room (length paper.old) (length wire.old) ≡ false }
+        ensures { Reads b self.old self.new (lent paper) (lent wire) result }
+    {
         let step = network::network_read(*self, b, paper, wire);
         *self = step.state;
         ByteOutcome {

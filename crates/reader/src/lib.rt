@@ -97,7 +97,8 @@ fn kept(r: Reader, b: u8) -> Read
         phase: Phase::InBody,
         ..r
     };
-    if r.len < BODY_ROOM {
+    let fits = r.len < BODY_ROOM;
+    if fits {
         reader.body[r.len] = b;
         reader.len += 1;
     }

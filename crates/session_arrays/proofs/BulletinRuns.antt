@@ -15,7 +15,7 @@ use Rattle.codes.specs.declared.Note.TheVariants.{Clear}
 use Rattle.codes.proofs.Rooms.{both_lent}
 use Rattle.reader.specs.NetworkRun.{RunEffect, cannot_begin, ran_from}
 use Rattle.reader.proofs.NetworkRun.{run_refused, run_begun, ran_plain, ran_none, further_stays}
-use Rattle.reader.specs.NetworkEnd.{PlainAt, Stepped, Finished}
+use Rattle.reader.specs.NetworkEnd.{PlainAt, Finished}
 use Rattle.reader.specs.declared.network_runs.ByteOutcome.{ByteOutcome}
 use Rattle.reader.specs.declared.network_runs.Ran.{Ran}
 use Rattle.bulletin.specs.State.{BulletinState, Effect}
@@ -33,8 +33,8 @@ use Rattle.bulletin.proofs.PlainBytes.{byte_plain}
 use Rattle.bulletin.specs.NetworkEnd.{lawful, call_done}
 use Rattle.session_arrays.specs.declared.bulletin_arrays.LentBulletinArrays.{LentBulletinArrays}
 use Rattle.session_arrays.specs.Numbers.{run_outcome}
-use Rattle.session_arrays.specs.BulletinArrays.{BulletinArrays, decoded_bulletin, small_in_place, encoded_bulletin, LentBulletin, arrays_of_bulletin, lent_between, SameArrays}
-use Rattle.session_arrays.specs.BulletinRuns.{view_lent, Keeps, SoundBulletin, RefinesByteOnBulletinArrays, RefinesRunOutcomeOnBulletinArrays, RefinesRunOnBulletinArrays, is_plain_in, in_place_in}
+use Rattle.session_arrays.specs.BulletinArrays.{BulletinArrays, decoded_bulletin, small_in_place, encoded_bulletin, LentBulletin, arrays_of_bulletin, lent_between}
+use Rattle.session_arrays.specs.BulletinRuns.{view_lent, Keeps, SoundBulletin, RefinesByteOnBulletinArrays, RefinesRunOutcomeOnBulletinArrays, RefinesRunOnBulletinArrays, is_plain_in, in_place_in, stored_in_place, StoredInPlace}
 use Rattle.session_arrays.proofs.BulletinArrays.{bulletin_found_again}
 use Rattle.session_arrays.proofs.Decoding.{option_state_found, phase_found, flag_found}
 
@@ -69,19 +69,18 @@ byte_by_value b {before} {after} {host} {wire} {s} {a} room found refines stored
     (stands_for a.state (ap decoded_bulletin stored ∙ bulletin_found_again a.state) (λ k. stored) (λ k. refines.clean (subst CleanBulletin (sym found) k)) refines.note (record { paper = refines.given; wire = refines.sent }) refines.view)
 
 -- the option states, the phase and the waits stored alone: the arrays then stand for the same state with these parts
-module _ (p : Parts) where
-  abbrev stored_in_place : BulletinArrays → BulletinArrays
-  stored_in_place a = arrays_of_bulletin (small_in_place a.small p) a.counts a.body a.statuses a.marks a.cells a.issue a.kept
+in_place_found : (p : Parts) (a : BulletinArrays) → decoded_bulletin (stored_in_place p a) ≡ in_place (decoded_bulletin a) p
+in_place_found p a = simp (option_state_found, phase_found, flag_found, get_or-drop)
 
-  in_place_found : (a : BulletinArrays) → decoded_bulletin (stored_in_place a) ≡ in_place (decoded_bulletin a) p
-  in_place_found a = simp (option_state_found, phase_found, flag_found, get_or-drop)
+abbrev with_small : BulletinArrays → List ℕ → BulletinArrays
+with_small a small = arrays_of_bulletin small a.counts a.body a.statuses a.marks a.cells a.issue a.kept
 
 -- a byte that was handled in place
 pub byte_in_place : (b : ℕ) (before : BulletinArrays) {small : List ℕ} {host wire : Lent} (r : InPlace)
     → RefinesInPlace (in_place_in before.small b) host wire (Some r)
     → small ≡ small_in_place before.small r.parts
-    → (is_some (in_place_in before.small b) ≡ true) × RefinesByteOnBulletinArrays (network_read (view_arrays before) b)
-    (lent_arrays before (arrays_of_bulletin small before.counts before.body before.statuses before.marks before.cells before.issue before.kept))
+    → (is_some (in_place_in before.small b) ≡ true) × StoredInPlace (in_place_in before.small b) (lent_arrays before (with_small before small))
+    × RefinesByteOnBulletinArrays (network_read (view_arrays before) b) (lent_arrays before (with_small before small))
     host wire (record { note = Clear; first = r.host; wire = r.wire })
 byte_in_place b before {small} {host} {wire} r met put =
     let s = decoded_bulletin before in
@@ -89,6 +88,7 @@ byte_in_place b before {small} {host} {wire} r met put =
     let p = found.0.parts in
     let at : small ≡ small_in_place before.small p = put ∙ ap (small_in_place before.small) found.1.1.parts in (
       ap (λ (o : Option InPlaceEffect). is_some o) found.1.0,
+      rw found.1.0 (ap (with_small before) at),
       rw (read_in_place s b found.0 found.1.0, at)
           (stands_for (in_place s p) (in_place_found p before) (λ k. ap (stored_in_place p) (sym k.encoded))
           (λ k. record { reader = k.reader; table = k.table }) refl found.1.1.wrote refl),

@@ -14,7 +14,7 @@ use Rattle.reader.specs.declared.network_runs.ByteOutcome.{ByteOutcome}
 use Rattle.session_arrays.specs.declared.RunOutcome.{RunOutcome}
 use Rattle.session_arrays.specs.Numbers.{sides_in}
 use Rattle.session_arrays.specs.declared.bulletin_arrays.LentBulletinArrays.{LentBulletinArrays}
-use Rattle.session_arrays.specs.BulletinArrays.{BulletinArrays, waits_in, decoded_bulletin, encoded_bulletin, LentBulletin, arrays_in, SameArrays}
+use Rattle.session_arrays.specs.BulletinArrays.{BulletinArrays, arrays_of_bulletin, waits_in, decoded_bulletin, encoded_bulletin, small_in_place, LentBulletin, arrays_in, SameArrays}
 
 -- the arrays as a session leaves them, as at the printer end
 pub record SoundBulletin (a : BulletinArrays) : Type 0 where
@@ -55,9 +55,18 @@ parts_in small = record { sides = sides_in small; phase = phase_of (get_or small
 abbrev pub in_place_in : (small : List ℕ) → ℕ → Option InPlaceEffect
 in_place_in small b = in_place_read (parts_in small) b
 
+-- the option states, the phase and the waits stored, and nothing else
+abbrev pub stored_in_place : Parts → BulletinArrays → BulletinArrays
+stored_in_place p a = arrays_of_bulletin (small_in_place a.small p) a.counts a.body a.statuses a.marks a.cells a.issue a.kept
+
+-- .. of a byte that the rule has such parts of
+abbrev pub StoredInPlace : Option InPlaceEffect → LentBulletin → Type 0
+StoredInPlace (Some e) arrays = arrays.after ≡ stored_in_place e.parts arrays.before
+StoredInPlace None arrays = ⊥
+
 -- a byte read in place by the code, just where the rule has such a one, as at the printer end
 abbrev pub ReadsInPlace : Option InPlaceEffect → Effect → LentBulletin → (host wire : Lent) → Option ByteOutcome → Type 0
-ReadsInPlace e d arrays host wire (Some r) = (is_some e ≡ true) × RefinesByteOnBulletinArrays d arrays host wire r
+ReadsInPlace e d arrays host wire (Some r) = (is_some e ≡ true) × StoredInPlace e arrays × RefinesByteOnBulletinArrays d arrays host wire r
 ReadsInPlace e d arrays host wire None = (e ≡ None) × (arrays.after ≡ arrays.before) × (host.after ≡ host.before) × (wire.after ≡ wire.before)
 
 -- the struct of arrays as it reads runs: the state that it stands for, and what bytes keep of it besides

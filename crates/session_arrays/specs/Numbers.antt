@@ -18,6 +18,7 @@ use Rattle.disposition.specs.Handled.{Report}
 use Rattle.bulletin.specs.declared.Output.{Output}
 use Rattle.bulletin.specs.declared.Output.TheVariants.{Ready, Waiting}
 use Rattle.session_arrays.specs.declared.Handler.{Handler}
+use Rattle.session_arrays.specs.declared.Outcome.{Outcome}
 use Rattle.session_arrays.specs.declared.Reported.{Reported}
 use Rattle.session_arrays.specs.declared.RunOutcome.{RunOutcome}
 
@@ -95,7 +96,10 @@ abbrev pub output_number : Output → ℕ
 output_number Ready = 0
 output_number Waiting = 1
 
--- a run's answer in numbers
+-- an answer in numbers, and a run's
+abbrev pub outcome : Code → Note → (first wire : ℕ) → Outcome
+outcome c n first wire = record { code = code_number c; note = note_number n; first = first; wire = wire }
+
 abbrev pub run_outcome : Code → Note → (taken first wire : ℕ) → RunOutcome
 run_outcome c n taken first wire = record { code = code_number c; note = note_number n; taken = taken; first = first; wire = wire }
 

@@ -3,6 +3,8 @@ use Rattle.std.specs.Prelude.{◌≡◌, Bool, true, false, List, ℕ, length, g
 use Rattle.lists.specs.Buffers.{Lent, WroteBothAtStart}
 use Rattle.codes.specs.Answers.{code_number, note_number}
 use Rattle.codes.specs.declared.Code.TheVariants.{Done}
+use Rattle.negotiation.specs.declared.Sides.{Sides}
+use Rattle.reader.specs.declared.Phase.{Phase}
 use Rattle.reader.specs.Numbers.{phase_of}
 use Rattle.reader.specs.NetworkRun.{RunCallEffect}
 use Rattle.printer.specs.declared.Parts.{Parts}
@@ -14,7 +16,7 @@ use Rattle.reader.specs.declared.network_runs.ByteOutcome.{ByteOutcome}
 use Rattle.session_arrays.specs.declared.RunOutcome.{RunOutcome}
 use Rattle.session_arrays.specs.Numbers.{flag_of, sides_in}
 use Rattle.session_arrays.specs.declared.printer_arrays.LentPrinterArrays.{LentPrinterArrays}
-use Rattle.session_arrays.specs.PrinterArrays.{PrinterArrays, decoded_printer, encoded_printer, LentPrinter, arrays_in, SameArrays}
+use Rattle.session_arrays.specs.PrinterArrays.{PrinterArrays, arrays_of_printer, decoded_printer, encoded_printer, small_in_place, LentPrinter, arrays_in, SameArrays}
 
 -- the arrays as a session leaves them: nothing stands in unused cells, and each part has the number that is stored for it
 pub record SoundPrinter (a : PrinterArrays) : Type 0 where
@@ -61,9 +63,16 @@ in_place_in small marks cells b = in_place_read (sides_in small) (phase_of (get_
 abbrev pub in_place_of : PrinterArrays → ℕ → InPlaceEffect
 in_place_of a b = in_place_in a.small a.marks a.cells b
 
--- .. by the code, just where the rule handles it: it is read, and otherwise the arrays and the buffers are as they were
+-- the option states and the phase stored, and nothing else
+abbrev pub stored_in_place : Sides → Phase → PrinterArrays → PrinterArrays
+stored_in_place sides phase a =
+    arrays_of_printer (small_in_place a.small sides phase) a.classes a.counts a.body a.marks a.cells a.waiting a.gathered
+
+-- .. by the code, just where the rule handles it: it is read, these parts are stored and nothing else, and otherwise the arrays and the
+-- buffers are as they were
 abbrev pub ReadsInPlace : InPlaceEffect → Effect → LentPrinter → (paper wire : Lent) → Option ByteOutcome → Type 0
-ReadsInPlace e d arrays paper wire (Some r) = (e.handled ≡ true) × RefinesByteOnPrinterArrays d arrays paper wire r
+ReadsInPlace e d arrays paper wire (Some r) =
+    (e.handled ≡ true) × (arrays.after ≡ stored_in_place e.sides e.phase arrays.before) × RefinesByteOnPrinterArrays d arrays paper wire r
 ReadsInPlace e d arrays paper wire None = (e.handled ≡ false) × (arrays.after ≡ arrays.before) × (paper.after ≡ paper.before) × (wire.after ≡ wire.before)
 
 -- the struct of arrays as it reads runs: the state that it stands for, and what bytes keep of it besides

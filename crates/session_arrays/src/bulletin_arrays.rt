@@ -1,5 +1,6 @@
 // The bulletin end's state in arrays that the host lends: found there, and stored there.
 ghost use Rattle.std.specs.Prelude.{◌≡◌, ◌≤◌, length};
+ghost use Rattle.session_arrays.specs.Numbers.{sides_in, values_in};
 ghost use Rattle.session_arrays.specs.BulletinArrays.{
   waits_in,
   wait_numbers,
@@ -8,6 +9,7 @@ ghost use Rattle.session_arrays.specs.BulletinArrays.{
   small_of_bulletin,
   small_in_place,
   bulletin_outcome,
+  arrays_of_bulletin,
   arrays_in,
   lent_between,
   SameArrays,
@@ -18,8 +20,9 @@ use crate::{Outcome, numbers};
 use bulletin::in_place::Parts;
 use bulletin::{Answer, Bulletin};
 use codes::{Code, Each};
-use disposition::Waits;
+use disposition::{AllValues, Waits};
 use issues::Issues;
+use negotiation::Sides;
 use reader::BODY_ROOM;
 use received_macros::{ROOM, Texts};
 use sent_macros::SendingTable;
@@ -38,15 +41,59 @@ pub struct LentBulletinArrays<'a> {
     pub kept: &'a mut [u16; 256],
 }
 
+pub fn sides_in(small: &[u8; 23]) -> Sides
+    ensures { result ≡ sides_in small.now }
+{
+    numbers::sides_in(small)
+}
+
+pub fn values_in(small: &[u8; 23]) -> AllValues
+    ensures { result ≡ values_in small.now 15 }
+{
+    numbers::values_in(small, 15)
+}
+
+// The state that the arrays stand for, also where they are lent to look at alone.
+pub fn decoded(
+    small: &[u8; 23],
+    counts: &[usize; 1],
+    body: &[u8; BODY_ROOM],
+    statuses: &[u8; 256],
+    marks: &[u16; 256],
+    cells: &[u8; ROOM],
+    issue: &[u16; 1],
+    kept: &[u16; 256],
+) -> Bulletin
+    ensures { result ≡ decoded_bulletin (arrays_of_bulletin small.now counts.now body.now statuses.now marks.now cells.now issue.now kept.now) }
+{
+    Bulletin {
+        sides: sides_in(small),
+        reader: numbers::reader_of(small[9], small[10], counts[0], body),
+        table: SendingTable {
+            statuses: *statuses,
+            texts: Texts {
+                marks: *marks,
+                cells: *cells,
+            },
+        },
+        values: values_in(small),
+        waits: waits_in(small),
+        issues: Issues {
+            present: issue[0],
+            kept: *kept,
+        },
+    }
+}
+
 impl LentBulletinArrays<'_> {
     pub fn decoded(&self) -> Bulletin
         ensures { result ≡ decoded_bulletin (arrays_in self.now) }
     {
-        // Copied first: the check does not read an element of an array through `&self`.
+        // Written out once more, as at the printer end.
         let counts = *self.counts;
         let issue = *self.issue;
         Bulletin {
-            sides: numbers::sides_in(self.small),
+            sides: sides_in(self.small),
             reader: numbers::reader_in(self.small, counts[0], self.body),
             table: SendingTable {
                 statuses: *self.statuses,
@@ -55,7 +102,7 @@ impl LentBulletinArrays<'_> {
                     cells: *self.cells,
                 },
             },
-            values: numbers::values_in(self.small, 15),
+            values: values_in(self.small),
             waits: waits_in(self.small),
             issues: Issues {
                 present: issue[0],
@@ -64,29 +111,38 @@ impl LentBulletinArrays<'_> {
         }
     }
 
+    // Lent, as at the printer end.
+    fn put(&mut self, s: &Bulletin)
+        ensures stored { arrays_in self.new ≡ encoded_bulletin s.now }
+        ensures same_arrays { SameArrays self.old self.new }
+    {
+        *self.small = small_of(s);
+        *self.counts = [s.reader.len];
+        *self.body = s.reader.body;
+        *self.statuses = s.table.statuses;
+        *self.marks = s.table.texts.marks;
+        *self.cells = s.table.texts.cells;
+        *self.issue = [s.issues.present];
+        *self.kept = s.issues.kept;
+    }
+
     pub fn store(&mut self, s: Bulletin)
         ensures stored { arrays_in self.new ≡ encoded_bulletin s }
         ensures same_arrays { SameArrays self.old self.new }
     {
-        self.small.copy_from_slice(&small_of(s));
-        *self.counts = [s.reader.len];
-        self.body.copy_from_slice(&s.reader.body);
-        self.statuses.copy_from_slice(&s.table.statuses);
-        self.marks.copy_from_slice(&s.table.texts.marks);
-        self.cells.copy_from_slice(&s.table.texts.cells);
-        *self.issue = [s.issues.present];
-        self.kept.copy_from_slice(&s.issues.kept);
+        self.put(&s);
     }
 
     // A call's answer in numbers; its state is stored if it is done, so that a refusal changes nothing.
-    pub fn answer(&mut self, a: Answer) -> Outcome
-        ensures keeps { KeepsBulletin a (lent_between self.old self.new) result }
+    pub fn kept(&mut self, a: &Answer) -> Outcome
+        ensures keeps { KeepsBulletin a.now (lent_between self.old self.new) result }
         ensures same_arrays { SameArrays self.old self.new }
     {
-        if a.code == Code::Done {
-            self.store(a.state);
+        let outcome = numbers::outcome(a.code, a.note, a.host, a.wire);
+        if matches!(a.code, Code::Done) {
+            self.put(&a.state);
         }
-        a.into()
+        outcome
     }
 }
 
@@ -94,12 +150,7 @@ impl From<Answer> for Outcome {
     ghost from_gives = { λ a o. o ≡ bulletin_outcome a };
 
     fn from(a: Answer) -> Outcome {
-        Outcome {
-            code: u8::from(a.code) as u32,
-            note: u8::from(a.note) as u32,
-            first: a.host,
-            wire: a.wire,
-        }
+        numbers::outcome(a.code, a.note, a.host, a.wire)
     }
 }
 
@@ -126,8 +177,8 @@ fn wait_numbers(w: Waits) -> [u8; 4]
     ]
 }
 
-fn small_of(s: Bulletin) -> [u8; 23]
-    ensures { result ≡ small_of_bulletin s }
+fn small_of(s: &Bulletin) -> [u8; 23]
+    ensures { result ≡ small_of_bulletin s.now }
 {
     let mut small = [0; 23];
     small[..10].copy_from_slice(&numbers::sides_and_phase(s.sides, s.reader.phase));

@@ -11,7 +11,7 @@ ghost use Rattle.bulletin.specs.Network.{network_read};
 ghost use Rattle.bulletin.specs.Refinement.{view_bulletin};
 ghost use Rattle.bulletin.specs.RefinementOfRuns.{begun_run};
 ghost use Rattle.session_arrays.specs.BulletinArrays.{decoded_bulletin, arrays_in, lent_between, SameArrays};
-ghost use Rattle.session_arrays.specs.BulletinRuns.{view_lent, Keeps, parts_in, is_plain_in, in_place_in, ReadsInPlace, RefinesByteOnBulletinArrays, RefinesRunOnBulletinArrays};
+ghost use Rattle.session_arrays.specs.BulletinRuns.{view_lent, Keeps, parts_in, stretch_in, is_plain_in, in_place_in, ReadsInPlace, RefinesByteOnBulletinArrays, RefinesRunOnBulletinArrays};
 
 use crate::bulletin_arrays::LentBulletinArrays;
 use crate::{RunOutcome, bulletin_arrays, numbers};
@@ -28,6 +28,13 @@ fn parts_in(small: &[u8; 23]) -> Parts
         phase: small[9].into(),
         waits: bulletin_arrays::waits_in(small),
     }
+}
+
+// How many bytes at the front are plain. The sides say nothing of it, and are not found in their numbers for it.
+fn stretch_in(small: &[u8; 23], bytes: &[u8]) -> usize
+    ensures { result ≡ stretch_in small.now bytes.now }
+{
+    stretches::data_stretch(small[9].into(), bulletin_arrays::waits_in(small), bytes)
 }
 
 // A byte by itself is plain.
@@ -57,8 +64,7 @@ impl ReadsNetwork for LentBulletinArrays<'_> {
     ghost onward = { λ a b c f g. Prim.search rules };
 
     fn plain_front(&self, bytes: &[u8]) -> usize {
-        let parts = parts_in(self.small);
-        stretches::data_stretch(parts.phase, parts.waits, bytes)
+        stretch_in(self.small, bytes)
     }
 
     fn read(&mut self, b: u8, host: &mut [u8], wire: &mut [u8]) -> ByteOutcome {

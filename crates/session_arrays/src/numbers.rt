@@ -2,9 +2,9 @@
 ghost use Rattle.std.specs.Prelude.{◌≡◌, ◌+◌, ◌≤◌, get_or};
 ghost use Rattle.codes.specs.declared.Code.TheVariants.{Done};
 ghost use Rattle.disposition.specs.Handled.{report_of, reports_of};
-ghost use Rattle.session_arrays.specs.Numbers.{sides_in, sides_and_phase, values_at, values_in, value_numbers, reader_from, report_in, reports_in, run_outcome, key_of_pair};
+ghost use Rattle.session_arrays.specs.Numbers.{sides_in, sides_and_phase, values_at, values_in, value_numbers, reader_from, report_in, reports_in, outcome, run_outcome, key_of_pair};
 
-use crate::{Handler, Reported, RunOutcome};
+use crate::{Handler, Outcome, Reported, RunOutcome};
 use codes::{Code, Each, Note};
 use disposition::{AllValues, Handling, Handlings, Values};
 use keys::Key;
@@ -50,17 +50,23 @@ pub fn sides_and_phase(sides: Sides, phase: Phase) -> [u8; 10]
     ]
 }
 
+pub fn reader_of(phase: u8, marred: u8, len: usize, body: &[u8; BODY_ROOM]) -> Reader
+    ensures { result ≡ reader_from phase marred len body.now }
+{
+    Reader {
+        phase: phase.into(),
+        marred: marred != 0,
+        body: *body,
+        len,
+    }
+}
+
 // The reader, whose phase stands behind the sides, and whether its body is marred behind that.
 pub fn reader_in<const N: usize>(small: &[u8; N], len: usize, body: &[u8; BODY_ROOM]) -> Reader
     requires { 11 ≤ N }
     ensures { result ≡ reader_from (get_or small.now 9 0) (get_or small.now 10 0) len body.now }
 {
-    Reader {
-        phase: small[9].into(),
-        marred: small[10] != 0,
-        body: *body,
-        len,
-    }
+    reader_of(small[9], small[10], len, body)
 }
 
 fn values_at<const N: usize>(small: &[u8; N], at: usize) -> Values
@@ -130,6 +136,17 @@ impl From<Ran> for RunOutcome {
 
     fn from(r: Ran) -> RunOutcome {
         run_outcome(Code::Done, r.note, r.taken, r.first, r.wire)
+    }
+}
+
+pub fn outcome(code: Code, note: Note, first: usize, wire: usize) -> Outcome
+    ensures { result ≡ outcome code note first wire }
+{
+    Outcome {
+        code: u8::from(code).into(),
+        note: u8::from(note).into(),
+        first,
+        wire,
     }
 }
 

@@ -11,7 +11,7 @@ ghost use Rattle.printer.specs.Network.{network_read};
 ghost use Rattle.printer.specs.Refinement.{view_printer};
 ghost use Rattle.printer.specs.RefinementOfRuns.{begun_run};
 ghost use Rattle.session_arrays.specs.PrinterArrays.{decoded_printer, arrays_in, lent_between, SameArrays};
-ghost use Rattle.session_arrays.specs.PrinterRuns.{view_lent, Keeps, RefinesByteOnPrinterArrays, RefinesRunOnPrinterArrays, parts_in, is_plain_in, in_place_of, ReadsInPlace};
+ghost use Rattle.session_arrays.specs.PrinterRuns.{view_lent, Keeps, RefinesByteOnPrinterArrays, RefinesRunOnPrinterArrays, parts_in, stretch_in, is_plain_in, in_place_of, ReadsInPlace};
 
 use crate::printer_arrays::LentPrinterArrays;
 use crate::{RunOutcome, numbers, printer_arrays};
@@ -27,6 +27,13 @@ fn parts_in(small: &[u8; 22]) -> Parts
         phase: small[9].into(),
         held: small[11] != 0,
     }
+}
+
+// How many bytes at the front are plain.
+fn stretch_in(small: &[u8; 22], marks: &[u16; 256], bytes: &[u8]) -> usize
+    ensures { result ≡ stretch_in small.now marks.now bytes.now }
+{
+    parts_in(small).data_stretch(marks, bytes)
 }
 
 // A byte by itself is plain.
@@ -56,7 +63,7 @@ impl ReadsNetwork for LentPrinterArrays<'_> {
     ghost onward = { λ a b c f g. Prim.search rules };
 
     fn plain_front(&self, bytes: &[u8]) -> usize {
-        parts_in(self.small).data_stretch(self.marks, bytes)
+        stretch_in(self.small, self.marks, bytes)
     }
 
     fn read(&mut self, b: u8, paper: &mut [u8], wire: &mut [u8]) -> ByteOutcome {

@@ -9,9 +9,9 @@ use borrow.Author.Rules.{rules}
 use Rattle.reader.proofs.kept.Goals as goal
 use mathlib.Core.Path.{◌≡◌, refl}
 
-pub returns-then-r-lt-BODY_ROOM : goal.returns-then-r-lt-BODY_ROOM
+pub returns-then-fits : goal.returns-then-fits
 unfolding keeping
-returns-then-r-lt-BODY_ROOM c =
+returns-then-fits c =
     let r = c.args.r in
     let l : length r.body ≡ 260 = search rules in
     let free : r.len < length r.body = omega arith in
@@ -20,9 +20,9 @@ returns-then-r-lt-BODY_ROOM c =
     rw (n, lt-ltb _ _ short)
     (record { item = refl; view = rw (appended r.body r.len c.args.b free 260 l); clean = clean_appended r.body r.len c.args.b free })
 
-pub returns-else-r-lt-BODY_ROOM : goal.returns-else-r-lt-BODY_ROOM
+pub returns-else-fits : goal.returns-else-fits
 unfolding keeping
-returns-else-r-lt-BODY_ROOM c =
+returns-else-fits c =
     let r = c.args.r in
     let l : length r.body ≡ 260 = search rules in
     let full : 260 ≤ length (take (min r.len 260) r.body) = simp length-take (omega arith) in

@@ -20,16 +20,16 @@ returns-then-is_command c =
     c.put_key.ensures
 
 pub put_item-n-requires : goal.put_item-n-requires
-put_item-n-requires c = item_data_fits c.handlings_now.result c.args.k
+put_item-n-requires c = item_data_fits c.handlings_now-handlings.result c.args.k
 
 pub put_data-requires : goal.put_data-requires
 put_data-requires c =
     let typed : is_command c.args.k ≡ false = sym c.is_command.ensures ∙ c.if-is_command.false in
-    rw (read_off c.put_item-n.ensures, c.handlings_now.ensures, c.table_now.ensures)
+    rw (read_off c.put_item-n.ensures, c.handlings_now-handlings.ensures, c.table_now-table.ensures)
     (rw (character_bytes (definitions_now (view_bulletin c.args.s)) (handlings_now (view_bulletin c.args.s)) c.args.k typed) at c.requires)
 
 pub returns : goal.returns
 returns c =
     let typed : is_command c.args.k ≡ false = sym c.is_command.ensures ∙ c.if-is_command.false in
     rw (character_bytes (definitions_now (view_bulletin c.args.s)) (handlings_now (view_bulletin c.args.s)) c.args.k typed)
-    (rw (read_off c.put_item-n.ensures, c.handlings_now.ensures, c.table_now.ensures) at c.put_data.ensures)
+    (rw (read_off c.put_item-n.ensures, c.handlings_now-handlings.ensures, c.table_now-table.ensures) at c.put_data.ensures)

@@ -34,9 +34,9 @@ returns-in-Err c =
     rw (sym c.no_room.ensures ∙ c.if-no_room.false, asked_through End.Printer a.s.sides a.option a.way (refused s) (λ t. done (moved_with_reply s t.side t.next (reply_bytes t.whose t.reply a.option))), sym c.asked_by.ensures ∙ c.in-Err.is, c.refused-in-Err.ensures)
     met_refused
 
-pub returns-in-Ok : goal.returns-in-Ok
+pub returns : goal.returns
 unfolding ask_call guarded
-returns-in-Ok c =
+returns c =
     let a = c.args in
     let s = view_printer a.s in
     let turn = c.in-Ok.turn in

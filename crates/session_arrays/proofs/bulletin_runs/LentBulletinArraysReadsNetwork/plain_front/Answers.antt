@@ -5,5 +5,4 @@ use Rattle.session_arrays.proofs.bulletin_runs.LentBulletinArraysReadsNetwork.pl
 pub returns : goal.returns
 returns c =
     let state = view_lent c.args.self.now in
-    let found = rw c.parts_in-parts.ensures at c.data_stretch.ensures in
-    record { within = data_within state c.args.bytes.now _ found; plain = data_plain state c.args.bytes.now _ found }
+    record { within = data_within state c.args.bytes.now _ c.stretch_in.ensures; plain = data_plain state c.args.bytes.now _ c.stretch_in.ensures }

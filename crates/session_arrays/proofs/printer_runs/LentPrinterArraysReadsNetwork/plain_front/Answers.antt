@@ -5,5 +5,4 @@ use Rattle.session_arrays.proofs.printer_runs.LentPrinterArraysReadsNetwork.plai
 pub returns : goal.returns
 returns c =
     let state = decoded_printer (arrays_in c.args.self.now) in
-    let found = rw c.parts_in.ensures at c.data_stretch.ensures in
-    record { within = data_within state c.args.bytes.now _ found; plain = data_plain state c.args.bytes.now _ found }
+    record { within = data_within state c.args.bytes.now _ c.stretch_in.ensures; plain = data_plain state c.args.bytes.now _ c.stretch_in.ensures }

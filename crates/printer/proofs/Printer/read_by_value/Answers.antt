@@ -2,7 +2,7 @@ use Rattle.std.proofs.Common.{arith}
 use lib.ListN.{length}
 use Rattle.codes.proofs.Rooms.{both_lent}
 use Rattle.printer.proofs.Runs.{byte_fits}
-use Rattle.printer.proofs.run.PrinterReadsNetwork.read.Goals as goal
+use Rattle.printer.proofs.Printer.read_by_value.Goals as goal
 
 pub network_read-step-requires : goal.network_read-step-requires
 network_read-step-requires c =
