@@ -137,7 +137,9 @@ pub fn ask(s: Printer, option: u8, way: u8, paper: &mut [u8], wire: &mut [u8]) -
         Ok(turn) => turn,
         Err(code) => return refused(s, code),
     };
-    done(moves::moved_with_reply(s, turn, option, paper, wire))
+    done(moves::moved_with_reply(
+        s, turn.side, turn.next, turn.whose, turn.reply, option, paper, wire,
+    ))
 }
 
 // This end's value about an option's character, DR.

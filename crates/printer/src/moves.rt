@@ -8,8 +8,8 @@ ghost use Rattle.std.specs.Prelude.{◌≡◌, true, false};
 ghost use Rattle.printer.specs.Refinement.{view_printer, rcte_stepped, RefinesStep, RefinesState};
 
 use crate::{Printer, Step};
-use codes::{Disposition, Note, Verb};
-use negotiation::{End, OptionState, Side, Turn};
+use codes::{Disposition, Note, Verb, Whose};
+use negotiation::{End, OptionState, Reply, Side};
 use rcte::RcteStep;
 
 // What RCTE's control did.
@@ -120,19 +120,23 @@ fn side_moved(s: Printer, side: Side, q: OptionState, paper: &mut [u8], wire: &m
 }
 
 // The reply or the request goes first, then what follows from the change.
+// Its parts one by one, and no `Turn`: the compiler then sees which side it is where the option is known.
 pub fn moved_with_reply(
     s: Printer,
-    turn: Turn,
+    side: Side,
+    q: OptionState,
+    whose: Whose,
+    reply: Reply,
     option: u8,
     paper: &mut [u8],
     wire: &mut [u8],
 ) -> Step
-    requires room_for { RoomFor (moved_with_reply (view_printer s) turn.side turn.next (reply_bytes turn.whose turn.reply option)).paper paper.old }
-    requires room_for_2 { RoomFor (moved_with_reply (view_printer s) turn.side turn.next (reply_bytes turn.whose turn.reply option)).wire wire.old }
-    ensures { RefinesStep (moved_with_reply (view_printer s) turn.side turn.next (reply_bytes turn.whose turn.reply option)) s (lent paper) (lent wire) result }
+    requires room_for { RoomFor (moved_with_reply (view_printer s) side q (reply_bytes whose reply option)).paper paper.old }
+    requires room_for_2 { RoomFor (moved_with_reply (view_printer s) side q (reply_bytes whose reply option)).wire wire.old }
+    ensures { RefinesStep (moved_with_reply (view_printer s) side q (reply_bytes whose reply option)) s (lent paper) (lent wire) result }
 {
-    let n = negotiation::put_reply(turn.whose, turn.reply, option, wire);
-    let step = side_moved(s, turn.side, turn.next, paper, &mut wire[n..]);
+    let n = negotiation::put_reply(whose, reply, option, wire);
+    let step = side_moved(s, side, q, paper, &mut wire[n..]);
     Step {
         wire: n + step.wire,
         ..step
@@ -146,6 +150,6 @@ pub fn negotiated(s: Printer, v: Verb, option: u8, paper: &mut [u8], wire: &mut 
     requires room_for_2 { RoomFor (negotiation_read (view_printer s) v option).wire wire.old }
     ensures { RefinesStep (negotiation_read (view_printer s) v option) s (lent paper) (lent wire) result }
 {
-    let turn = negotiation::heard_by(End::Printer, s.sides, v, option);
-    moved_with_reply(s, turn, option, paper, wire)
+    let t = negotiation::heard_by(End::Printer, s.sides, v, option);
+    moved_with_reply(s, t.side, t.next, t.whose, t.reply, option, paper, wire)
 }

@@ -12,7 +12,7 @@ returns c =
       note = m.ensures.note;
       wrote = record {
         paper = m.ensures.wrote.paper;
-        wire = both_wrote (view_printer x.s) x.turn.side x.turn.next (reply_bytes x.turn.whose x.turn.reply x.option) c.requires.room_for_2 p.ensures m.ensures.wrote.wire;
+        wire = both_wrote (view_printer x.s) x.side x.q (reply_bytes x.whose x.reply x.option) c.requires.room_for_2 p.ensures m.ensures.wrote.wire;
       };
       view = m.ensures.view;
       clean = m.ensures.clean;
